@@ -255,8 +255,8 @@ static void try_large(void) {
     close_all();
 }
 
-/* Calls that look into a doubled table free nothing, and what was there before goes once a key is put
- * into each stripe. */
+/* Calls that look into a doubled table free nothing. What was there before goes as keys are put into
+ * the stripes: each of these calls takes a block at most, and the next one by the handle frees it. */
 static void try_emptied(void) {
     int left;
     open_all();
@@ -266,9 +266,16 @@ static void try_emptied(void) {
     check("reserve", "there are blocks from before", left > 0);
     check("find", "no key is lost", numbers() == KEYS);
     check("find", "it frees none", blocks == left);
-    for (uint64_t key = KEYS; key < SLOTS; key++)
+    check("insert", "it puts a key", cuckoo_insert(&handles[0], KEYS, 10 * KEYS) == CUCKOO_OK);
+    check("insert", "it frees none", blocks == left);
+    for (uint64_t key = KEYS + 1; key < SLOTS; key++) {
+        int before = blocks;
         check("insert", "there is room", cuckoo_insert(&handles[0], key, 10 * key) == CUCKOO_OK);
-    check("insert", "it frees the blocks from before", blocks == 0);
+        check("insert", "it frees one at most", blocks == before || blocks == before - 1);
+    }
+    check("insert", "one is left at most", blocks <= 1);
+    check("insert", "a key is bound", cuckoo_insert(&handles[0], KEYS, 0) == CUCKOO_PRESENT);
+    check("insert", "it frees the last block from before", blocks == 0);
     watches = 0;
     close_all();
 }

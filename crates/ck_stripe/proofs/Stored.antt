@@ -18,7 +18,7 @@ use Rattle.ck_stripe.specs.declared.next.Next.TheVariants.{Absent, Reserved, Dou
 use Rattle.ck_stripe.specs.declared.stripe.Stripe.TheInside.{Inside}
 use Rattle.ck_stripe.specs.Doubling.{split_rows, doubled_content}
 use Rattle.ck_stripe.specs.Stripe.{StripeState, IsWellFormed, bucket_of, with_bucket, with_slot, content_of}
-use Rattle.ck_stripe.specs.Next.{is_settled, count_of, room_of, blank_of, IsFor, without_emptied}
+use Rattle.ck_stripe.specs.Next.{is_settled, is_emptied, count_of, room_of, blank_of, IsFor, without_emptied}
 use Rattle.ck_stripe.specs.Stored.{shown_rows, shown, IsConsistent}
 use Rattle.ck_stripe.proofs.Splits.{length-split, four-split, split_moved}
 use Rattle.ck_stripe.proofs.Doubled.{twice_rows}
@@ -73,6 +73,15 @@ module _ {K V : Type 0} where
     -- what a settled stripe has is for so many rows
     pub next_for : is_settled t.next ≡ true → IsFor (2 ^ (t.power - t.s)) t.next
     next_for settled = subst (λ n. IsFor n t.next) (stored_count true settled) kept.next
+
+    pub emptied_for : is_emptied t.next ≡ true → IsFor (2 ^ (t.power - t.s)) t.next
+    emptied_for has = next_for (go t.next has)
+      where
+        go : (next : Next K V) → is_emptied next ≡ true → is_settled next ≡ true
+        go Absent e = refl
+        go (Reserved blank) e = refl
+        go (Doubled blank) e = absurd (true≢false (sym e))
+        go (Emptied rows) e = refl
 
     -- without emptied rows
     pub kept_freed : (after : Next K V) → after ≡ without_emptied t.next → IsConsistent (record t { next = after })

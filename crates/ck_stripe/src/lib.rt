@@ -9,6 +9,7 @@
 
 // One stripe: the rows of its buckets, and what a doubling has left to be moved.
 mod crossings;
+mod emptied;
 mod grower;
 mod next;
 mod spares;
@@ -27,6 +28,7 @@ mod held_slot;
 pub mod one_stripe;
 mod several;
 
+pub use emptied::Emptied;
 pub use grower::Grower;
 pub use held::{Held, Numbered, Visitor};
 pub use held_slot::HeldSlot;

@@ -1,8 +1,10 @@
 //! What a stripe has for its next doubling, or from its last one.
 ghost use Rattle.std.specs.Prelude.{◌≡◌, ◌≤◌, ◌<◌, ◌*◌, ◌-◌, ◌^◌, Some, true, false, is_some, IsSome};
+ghost use Rattle.std.specs.Bool.{OnTrue};
 ghost use Rattle.ck_stripe.specs.declared.next.Next.TheVariants.{Absent};
 ghost use Rattle.ck_stripe.specs.Next.{is_settled, count_of, blank_of, is_emptied, IsFor, without_emptied};
 
+use crate::emptied::Emptied;
 use ck_bucket::{BlankRows, Rows};
 use ck_key::TableKey;
 use std::mem;
@@ -14,8 +16,8 @@ pub(crate) enum Next<K: TableKey, V> {
     Reserved(BlankRows<K, V>),
     // The power was raised, and `settle` has to move the entries there.
     Doubled(BlankRows<K, V>),
-    // The entries were moved away from these rows. A call that only looks is spared their freeing,
-    // which takes a while where an allocator gives memory back to the system.
+    // The entries were moved away from these rows. They aren't freed while the stripe is held, since
+    // that takes a while where an allocator gives memory back to the system.
     Emptied(Rows<K, V>),
 }
 
@@ -27,6 +29,17 @@ impl<K: TableKey, V> Next<K, V> {
         match self {
             Next::Doubled(_) => false,
             Next::Absent | Next::Reserved(_) | Next::Emptied(_) => true,
+        }
+    }
+
+    // Whether nothing is left of a doubling.
+    #[inline(always)]
+    pub(crate) fn is_clear(&self) -> bool
+        ensures { OnTrue result (is_settled self.now ≡ true) }
+    {
+        match self {
+            Next::Absent | Next::Reserved(_) => true,
+            Next::Doubled(_) | Next::Emptied(_) => false,
         }
     }
 
@@ -77,34 +90,25 @@ impl<K: TableKey, V> Next<K, V> {
         }
     }
 
-    // Frees the rows that `settle` has emptied, in one of 2^s stripes of a table of 2^power buckets.
-    // Mostly there are none.
-    #[inline(always)]
-    pub(crate) fn free_emptied(&mut self, s: u32, power: u32)
+    // Takes out the rows that `settle` has emptied, if it has such, in one of 2^s stripes of a table of
+    // 2^power buckets.
+    pub(crate) fn take_emptied(&mut self, s: u32, power: u32) -> Option<Emptied<K, V>>
         requires least { s ≤ power }
         requires most { power ≤ 26 }
-        requires all { IsFor (2 ^ (power - s)) self.old }
+        requires all { is_emptied self.old ≡ true → IsFor (2 ^ (power - s)) self.old }
         ensures { self.new ≡ without_emptied self.old }
     {
-        if self.is_emptied() {
-            self.close_emptied(s, power);
+        if !self.is_emptied() {
+            return None;
         }
-    }
-
-    #[cold]
-    #[inline(never)]
-    fn close_emptied(&mut self, s: u32, power: u32)
-        requires emptied { is_emptied self.old ≡ true }
-        requires least { s ≤ power }
-        requires most { power ≤ 26 }
-        requires all { IsFor (2 ^ (power - s)) self.old }
-        ensures { self.new ≡ Absent }
-    {
-        mem::replace(self, Next::Absent).close(1 << (power - s));
+        let next = mem::replace(self, Next::Absent);
+        Some(Emptied {
+            count: 1 << (power - s),
+            next,
+        })
     }
 
     // Whether it has rows that `settle` has emptied.
-    #[inline(always)]
     fn is_emptied(&self) -> bool
         ensures { result ≡ is_emptied self.now }
     {

@@ -1,5 +1,6 @@
 //! Calls on one of the stripes that a call holds.
 ghost use Rattle.std.specs.Prelude.{◌≡◌, ◌<◌, ◌+◌, ◌-◌, true, Some, None, IsSome, IfSome, IfNone, OnOk, OnErr, length, map, slice_set};
+ghost use Rattle.std.specs.Bool.{OnTrue};
 ghost use Rattle.std.specs.Fn.{FnOnceReturnsAt};
 ghost use Rattle.ck_model.specs.Arithmetic.{partial_of};
 ghost use Rattle.ck_model.specs.Slots.{slot_at, IsFull};
@@ -12,6 +13,7 @@ ghost use Rattle.ck_stripe.specs.Reading.{ReadsSlot};
 ghost use Rattle.ck_stripe.specs.Tables.{HasStripe};
 ghost use Rattle.ck_stripe.specs.HeldSlots.{at, slot_in, set_slot, IsLowest};
 
+use crate::emptied::Emptied;
 use crate::grower::Grower;
 use crate::held::Held;
 use crate::held_slot::HeldSlot;
@@ -67,6 +69,29 @@ pub fn is_settled<K: TableKey + Drop, V: Drop, H: Held<Stripe<K, V>>>(
     ensures stays { H.stays held.old held.new }
 {
     held.visit(i, |stripe: &mut Stripe<K, V>| stripe.settled())
+}
+
+/// Whether nothing is left of a doubling of stripe `i`.
+#[inline(always)]
+pub fn is_clear<K: TableKey + Drop, V: Drop, H: Held<Stripe<K, V>>>(held: &mut H, i: usize) -> bool
+    requires { i < length (H.stripes held.old) }
+    ensures settled { OnTrue result ((stripe_at (H.stripes held.old) i).settled ≡ true) }
+    ensures same { H.stripes held.new ≡ H.stripes held.old }
+    ensures stays { H.stays held.old held.new }
+{
+    held.visit(i, |stripe: &mut Stripe<K, V>| stripe.is_clear())
+}
+
+/// Takes out the rows of stripe `i` that a doubling has emptied, if it has such.
+pub fn take_emptied<K: TableKey + Drop, V: Drop, H: Held<Stripe<K, V>>>(
+    held: &mut H,
+    i: usize,
+) -> Option<Emptied<K, V>>
+    requires { i < length (H.stripes held.old) }
+    ensures same { H.stripes held.new ≡ H.stripes held.old }
+    ensures stays { H.stays held.old held.new }
+{
+    held.visit(i, |stripe: &mut Stripe<K, V>| stripe.take_emptied())
 }
 
 /// The number of entries of stripe `i`.

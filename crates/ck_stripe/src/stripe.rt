@@ -3,6 +3,7 @@
 #![tactic(auto, using(crate::proofs::Stored::formed_now))]
 
 ghost use Rattle.std.specs.Prelude.{◌≡◌, ◌≤◌, ◌<◌, ◌+◌, ◌-◌, ◌*◌, ◌/◌, ◌^◌, ℕ, true, false, Some, None, IsSome, IfSome, IfNone, IfOk, OnOk, OnErr, ◌++◌, length, map, flat_map, replicate, option_map, option_copied, vec_len, vec_capacity};
+ghost use Rattle.std.specs.Bool.{OnTrue};
 ghost use Rattle.std.specs.List.Sorted.{IsPermutation};
 ghost use Rattle.ck_model.specs.Arithmetic.{partial_of};
 ghost use Rattle.ck_model.specs.Listing.{named};
@@ -13,6 +14,7 @@ ghost use Rattle.ck_bucket.specs.Bucket.{HasName, LacksName, ReplacesValue, Chan
 ghost use Rattle.ck_stripe.specs.Doubling.{split_rows, doubled_content, SendsEach};
 ghost use Rattle.ck_stripe.specs.Stripe.{HasBucket, bucket_of, with_bucket, with_slot, IsWellFormed, HasNoSpare, IsReserved, shrunk, reserved};
 
+use crate::emptied::Emptied;
 use crate::grower::Grower;
 use crate::iter::Iter;
 use crate::next::Next;
@@ -169,7 +171,6 @@ impl<K: TableKey + Drop, V: Drop> Stripe<K, V> {
     {
         let row = self.row(b);
         self.rows.put(row, slot, partial, key, value);
-        self.next.free_emptied(self.s, self.power);
     }
 
     /// Frees a slot of bucket `b`, and gives what was in it.
@@ -292,7 +293,7 @@ impl<K: TableKey + Drop, V: Drop> Stripe<K, V> {
             return Err(AllocError);
         }
         let blank = grower.block(count)?;
-        self.next.free_emptied(self.s, self.power);
+        drop(self.next.take_emptied(self.s, self.power));
         self.next.put(Next::Reserved(blank));
         Ok(())
     }
@@ -333,8 +334,25 @@ impl<K: TableKey + Drop, V: Drop> Stripe<K, V> {
         self.next.is_settled()
     }
 
+    /// Whether nothing is left of a doubling: neither entries to be moved, nor rows that were emptied.
+    #[inline(always)]
+    pub fn is_clear(&self) -> bool
+        ensures settled { OnTrue result (self.now.settled ≡ true) }
+        ensures formed { IsWellFormed self.now }
+    {
+        self.next.is_clear()
+    }
+
+    /// Takes out the rows that a doubling has emptied, if it has such. They are to be freed when the
+    /// stripe isn't held, since that takes a while where an allocator gives memory back to the system.
+    pub fn take_emptied(&mut self) -> Option<Emptied<K, V>>
+        ensures { self.new ≡ self.old }
+    {
+        self.next.take_emptied(self.s, self.power)
+    }
+
     /// Carries out a doubling, in the memory that was reserved for it; a settled stripe stays as it
-    /// is. It frees nothing: who puts a key into the stripe next does.
+    /// is. It frees nothing, and `take_emptied` gives what it has emptied.
     pub fn settle(&mut self)
         ensures { self.new ≡ record self.old { settled = true } }
     {

@@ -73,7 +73,7 @@ impl<K: TableKey + Drop, V: Drop> Words<K, V> {
         if let Err(t) = self.take_set(pass, set) {
             return Err(t);
         }
-        self.settle_taken(pass, set);
+        self.settle_taken(pass, set, false);
         Ok(())
     }
 

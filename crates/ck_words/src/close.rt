@@ -104,7 +104,11 @@ impl<K: TableKey + Drop, V: Drop> Words<K, V> {
         requires room { length (pairs_of (contents_of pass.stripes)) + 4 ≤ vec_capacity pairs }
         ensures { map (named K.name) result.items ≡ pairs_of (contents_of pass.stripes) }
     {
-        let Whole { seat: _, stripes } = self.lift(pass);
+        let Whole {
+            seat: _,
+            stripes,
+            emptied: _,
+        } = self.lift(pass);
         pour(stripes, &mut pairs);
         pairs
     }

@@ -10,7 +10,7 @@ use crate::rule::{Board, StripeSeat};
 use crate::visits::turn_by;
 use crate::words::Words;
 use ck_key::TableKey;
-use ck_stripe::{Held, Stripe, Visitor};
+use ck_stripe::{Emptied, Held, Stripe, Visitor};
 use std::marker::Model;
 
 /// All stripes of a table, which one caller holds, in one list in rising order of their numbers.
@@ -20,6 +20,8 @@ pub struct Whole<K: TableKey, V> {
     pub(crate) seat: StripeSeat<K, V>,
     /// The stripes.
     pub stripes: ReservedList<Stripe<K, V>>,
+    // As the pass had it.
+    pub(crate) emptied: Option<Emptied<K, V>>,
 }
 
 impl<K: TableKey, V> Model for Whole<K, V> {
@@ -72,12 +74,17 @@ impl<K: TableKey + Drop, V: Drop> Words<K, V> {
         requires numbered { numbers_of pass.stripes ≡ counting 0 (2 ^ self.now.settings.s) }
         ensures { result ≡ pass }
     {
-        let Pass { mut seat, mut room } = pass;
+        let Pass {
+            mut seat,
+            mut room,
+            emptied,
+        } = pass;
         let shared = &self.table.shared;
         take_out(shared, &mut seat, self.table.slot_count(), &mut room);
         Whole {
             seat,
             stripes: room,
+            emptied,
         }
     }
 
@@ -91,12 +98,14 @@ impl<K: TableKey + Drop, V: Drop> Words<K, V> {
         let Whole {
             mut seat,
             mut stripes,
+            emptied,
         } = whole;
         let shared = &self.table.shared;
         put_back(shared, &mut seat, self.table.slot_count(), &mut stripes);
         Pass {
             seat,
             room: stripes,
+            emptied,
         }
     }
 }

@@ -67,7 +67,14 @@ impl<K: TableKey + Drop, V: Drop> Words<K, V> {
         let Ok((table, seat)) = Table::new(alloc, words.as_slice(), slots, &settings) else {
             return Err(AllocError);
         };
-        Ok((Words { table, settings }, Pass { seat, room }))
+        Ok((
+            Words { table, settings },
+            Pass {
+                seat,
+                room,
+                emptied: None,
+            },
+        ))
     }
 
     /// A table of empty stripes, and the passes of all callers in the order of their numbers. They
@@ -114,6 +121,10 @@ impl<K: TableKey + Drop, V: Drop> Words<K, V> {
     {
         let room = ReservedList::with_capacity(alloc, self.table.slot_count())?;
         let seat = self.table.shared.split_seat::<Open>(&mut first.seat);
-        Ok(Pass { seat, room })
+        Ok(Pass {
+            seat,
+            room,
+            emptied: None,
+        })
     }
 }

@@ -1,7 +1,8 @@
 //! Carrying out the doublings that are left of stripes that a pass holds.
-ghost use Rattle.std.specs.Prelude.{◌≡◌, ◌<◌, ◌≤◌, ◌^◌};
+ghost use Rattle.std.specs.Prelude.{◌≡◌, ◌<◌, ◌≤◌, ◌^◌, true, length};
+ghost use Rattle.std.specs.Bool.{OnTrue};
 ghost use Rattle.ck_stripe.specs.Tables.{AreHeld, IsTable, AreSettled};
-ghost use Rattle.ck_stripe.specs.Stripes.{settled_stripes};
+ghost use Rattle.ck_stripe.specs.Stripes.{stripe_at, settled_stripes};
 ghost use Rattle.ck_words.specs.Passes.{IsPassOf, IsUnchanged, numbers_of, PassState};
 ghost use Rattle.ck_words.specs.StripeNumbers.{pair};
 ghost use Rattle.ck_words.specs.StripeSets.{list_of};
@@ -14,12 +15,13 @@ use crate::pass::Pass;
 use crate::stripe_set::StripeSet;
 use crate::words::Words;
 use ck_key::TableKey;
-use ck_stripe::{one_stripe, settle_all};
+use ck_stripe::{Held, Stripe, one_stripe, settle_all};
 
 impl<K: TableKey + Drop, V: Drop> Words<K, V> {
-    /// Carries out the doublings that are left of the stripes of a set, which were just taken.
+    /// Carries out the doublings that are left of the stripes of a set, which were just taken. A call
+    /// that `clears` takes out what they have emptied of one of two, for `free_emptied`.
     #[inline(always)]
-    pub fn settle_taken(&self, pass: &mut Pass<K, V>, set: StripeSet)
+    pub fn settle_taken(&self, pass: &mut Pass<K, V>, set: StripeSet, clears: bool)
         requires of_table { set.s ≡ self.now.settings.s }
         requires taken { (p : PassState V)
             × HasTakenAll K.hash self.now (list_of set) p pass.old }
@@ -30,7 +32,7 @@ impl<K: TableKey + Drop, V: Drop> Words<K, V> {
         ensures unchanged { IsUnchanged pass.new }
     {
         self.show_range();
-        self.settle(pass, set);
+        self.settle(pass, set, clears);
     }
 
     /// Carries out the doublings that are left of all stripes, which the pass holds as it took
@@ -50,7 +52,7 @@ impl<K: TableKey + Drop, V: Drop> Words<K, V> {
 
     // Carries out the doublings that are left of the stripes of a set. Mostly there is none.
     #[inline(always)]
-    fn settle(&self, pass: &mut Pass<K, V>, set: StripeSet)
+    fn settle(&self, pass: &mut Pass<K, V>, set: StripeSet, clears: bool)
         requires { HoldsSet self.now set pass.old }
         ensures own { IsPassOf self.now pass.new }
         ensures settled { pass.new
@@ -60,14 +62,14 @@ impl<K: TableKey + Drop, V: Drop> Words<K, V> {
         if count <= 2 {
             let mut guard = guard!(self, pass, set);
             // One test for both, before anything is looked into.
-            let first = one_stripe::is_settled(&mut guard, 0);
-            let last = one_stripe::is_settled(&mut guard, count - 1);
+            let first = is_ready(&mut guard, 0, clears);
+            let last = is_ready(&mut guard, count - 1, clears);
             let Guard { pass, .. } = guard;
             if first && last {
                 return;
             }
             let (low, high) = set.two();
-            return self.settle_pair(pass, low, high);
+            return self.settle_pair(pass, low, high, clears);
         }
         self.settle_each(pass, set);
     }
@@ -76,7 +78,7 @@ impl<K: TableKey + Drop, V: Drop> Words<K, V> {
     // a set would be kept in memory.
     #[cold]
     #[inline(never)]
-    fn settle_pair(&self, pass: &mut Pass<K, V>, low: usize, high: usize)
+    fn settle_pair(&self, pass: &mut Pass<K, V>, low: usize, high: usize, clears: bool)
         requires own { IsPassOf self.now pass.old }
         requires rising { low ≤ high }
         requires inside { high < 2 ^ self.now.settings.s }
@@ -87,6 +89,35 @@ impl<K: TableKey + Drop, V: Drop> Words<K, V> {
     {
         let set = StripeSet::of_pair(self.settings().s, low, high);
         self.settle_each(pass, set);
+        if clears {
+            self.take_emptied(pass, set);
+        }
+    }
+
+    // Takes out what a doubling has emptied of the first stripe, or else of the last.
+    fn take_emptied(&self, pass: &mut Pass<K, V>, set: StripeSet)
+        requires { HoldsSet self.now set pass.old }
+        ensures own { IsPassOf self.now pass.new }
+        ensures same { pass.new ≡ pass.old }
+    {
+        let mut guard = guard!(self, pass, set);
+        let emptied = match one_stripe::take_emptied(&mut guard, 0) {
+            Some(emptied) => Some(emptied),
+            None => one_stripe::take_emptied(&mut guard, set.count() - 1),
+        };
+        let Guard { pass, .. } = guard;
+        pass.emptied = emptied;
+    }
+
+    /// Frees what the pass has taken out. It is called when it holds no stripe, since that takes a
+    /// while where an allocator gives memory back to the system.
+    #[inline(always)]
+    pub fn free_emptied(&self, pass: &mut Pass<K, V>)
+        ensures { pass.new ≡ pass.old }
+    {
+        if pass.emptied.is_some() {
+            pass.free_emptied();
+        }
     }
 
     // Carries out the doublings that are left of the stripes of a set, one after another.
@@ -98,5 +129,35 @@ impl<K: TableKey + Drop, V: Drop> Words<K, V> {
     {
         let mut guard = guard!(self, pass, set);
         settle_all(&mut guard);
+    }
+}
+
+impl<K: TableKey + Drop, V: Drop> Pass<K, V> {
+    #[cold]
+    #[inline(never)]
+    fn free_emptied(&mut self)
+        ensures { self.new ≡ self.old }
+    {
+        self.emptied = None;
+    }
+}
+
+// Whether stripe `i` has nothing left of a doubling, or where the call doesn't clear it no entries
+// that are to be moved.
+#[inline(always)]
+fn is_ready<K: TableKey + Drop, V: Drop, H: Held<Stripe<K, V>>>(
+    held: &mut H,
+    i: usize,
+    clears: bool,
+) -> bool
+    requires { i < length (H.stripes held.old) }
+    ensures settled { OnTrue result ((stripe_at (H.stripes held.old) i).settled ≡ true) }
+    ensures same { H.stripes held.new ≡ H.stripes held.old }
+    ensures stays { H.stays held.old held.new }
+{
+    if clears {
+        one_stripe::is_clear(held, i)
+    } else {
+        one_stripe::is_settled(held, i)
     }
 }

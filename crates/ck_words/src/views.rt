@@ -103,7 +103,7 @@ impl<K: TableKey + Drop, V: Drop> Words<K, V> {
         ensures own { IsPassIn self.now first.new }
         ensures joined { first.new ≡ record first.old { view = joining first.old.view other.view } }
     {
-        let Pass { seat, room: _ } = other;
+        let Pass { seat, .. } = other;
         self.table.shared.join_seat::<Tell>(&mut first.seat, seat);
     }
 }

@@ -101,7 +101,7 @@ impl<K: TableKey + Drop, V: Drop> Table<K, V> {
         if let Err(missed) = self.words.lock_now(pass, own.stripes) {
             self.lock_key_later(pass, key, own, missed, &since)?;
         }
-        let spot = self.spot_in(pass, key, own, &since);
+        let spot = self.spot_in(pass, key, own, false, &since);
         let mut guard = guard!(&self.words, pass, spot.stripes);
         let value = erase(&mut guard, spot.place, key);
         guard.commit_query(Commit::Erase(Snapshot::of(&key)));

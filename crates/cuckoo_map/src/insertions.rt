@@ -173,6 +173,7 @@ impl<K: TableKey + Drop, V: Drop> Table<K, V> {
         ensures inserted { HasInserted (TellsOf (I.tells insertion value))
             K.hash self.now.settings (K.name key) key value result pass.old pass.new }
     {
+        self.words.free_emptied(pass);
         let since = Snapshot::of(pass);
         let own = self.stripes_of_key(&key);
         match self.words.lock_now(pass, own.stripes) {
@@ -260,7 +261,7 @@ impl<K: TableKey + Drop, V: Drop> Table<K, V> {
         ensures inserted { HasInserted (TellsOf (I.tells insertion value))
             K.hash self.now.settings (K.name key) key value result since.value pass.new }
     {
-        let spot = self.spot_in(pass, &key, own, &since);
+        let spot = self.spot_in(pass, &key, own, true, &since);
         match self.find_room(pass, &key, spot, &since) {
             Ok(room) => Ok(self.make_in(pass, room, key, value, insertion, since)),
             Err(power) => self.make_full(pass, power, key, value, insertion, since),

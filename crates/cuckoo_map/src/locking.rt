@@ -49,7 +49,7 @@ impl<K: TableKey + Drop, V: Drop> Table<K, V> {
         if let Err(missed) = self.words.lock_now(pass, own.stripes) {
             self.lock_key_later(pass, key, own, missed, &since)?;
         }
-        Ok(self.spot_in(pass, key, own, &since))
+        Ok(self.spot_in(pass, key, own, false, &since))
     }
 
     // Goes on where `lock_now` missed the stripe at position `missed` of the key's. `since` is the
@@ -93,14 +93,16 @@ impl<K: TableKey + Drop, V: Drop> Table<K, V> {
         KeyStripes { stripes, hash }
     }
 
-    // Carries out a doubling that is left of the key's stripes, which were just taken. Where the
-    // key may be among them comes back. `since` is the pass before it took them.
+    // Carries out a doubling that is left of the key's stripes, which were just taken; a call that
+    // `clears` takes out what it has emptied. Where the key may be among them comes back. `since` is
+    // the pass before it took them.
     #[inline(always)]
     pub(crate) fn spot_in<Q: Query<K>>(
         &self,
         pass: &mut Pass<K, V>,
         key: Q,
         own: KeyStripes,
+        clears: bool,
         since: &Snapshot<Pass<K, V>>,
     ) -> Spot
         requires key_stripes { AreStripesOf K.hash self.now.settings (Q.name key) own }
@@ -112,7 +114,7 @@ impl<K: TableKey + Drop, V: Drop> Table<K, V> {
         ensures found { FindsOwn K.hash self.now.settings (Q.name key) since.now.value pass.new }
     {
         let KeyStripes { stripes, hash } = own;
-        self.words.settle_taken(pass, stripes);
+        self.words.settle_taken(pass, stripes, clears);
         let mut guard = guard!(&self.words, pass, stripes);
         let place = key_place(&mut guard, stripes.s, key, hash);
         Spot { stripes, place }

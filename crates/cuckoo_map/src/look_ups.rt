@@ -39,7 +39,7 @@ impl<K: TableKey + Drop, V: Drop> Table<K, V> {
         if let Err(missed) = self.words.lock_now(pass, own.stripes) {
             self.lock_key_later(pass, key, own, missed, &since)?;
         }
-        let spot = self.spot_in(pass, key, own, &since);
+        let spot = self.spot_in(pass, key, own, false, &since);
         // A closure that was not called is dropped only here, when no stripe is held.
         let (found, _) = self.find_in(pass, spot, key, f, since);
         Ok(found)
