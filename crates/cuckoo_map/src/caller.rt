@@ -5,9 +5,10 @@ ghost use Rattle.ck_model.specs.declared.history.Call.TheVariants.{ChangeTwo};
 ghost use Rattle.ck_words.specs.Closing.{IsCaller};
 
 use crate::locked::LockedOn;
+use crate::locked_keys::LockedKeysOn;
 use crate::refusal::{
-    Busy, DrainFault, GrowFault, KeysRefused, NoCallers, NotDrained, NotLocked, NotRenamed,
-    Refused, Why,
+    Busy, DrainFault, GrowFault, KeysNotLocked, KeysRefused, KeysWithoutRoom, NoCallers,
+    NotDrained, NotLocked, NotRenamed, Refused, Why,
 };
 use crate::table::Table;
 use crate::table_ref::TableRef;
@@ -40,7 +41,6 @@ use std::marker::Model;
 /// grow: as `Full` at its greatest power, as `LoadTooLow` where too few slots are taken, or as
 /// `Memory`. It then changes no binding, though the table may have grown. It hands back the key
 /// with the value, or with the closures that were to make one, which were not called.
-#[derive(Drop)]
 pub struct CallerOn<T: TableRef<K, V>, K: TableKey, V> {
     pub(crate) table: T,
     pub(crate) pass: Pass<K, V>,
@@ -58,6 +58,15 @@ impl<T: TableRef<K, V>, K: TableKey, V> Model for CallerOn<T, K, V> {
     ghost view = { λ c. caller_of (T.state c.table) c.pass };
 
     ghost invariant = { λ c. IsCaller (T.state c.table) c.pass };
+}
+
+// Written out, so that it is proved here, and not in each program that drops a caller.
+impl<T: TableRef<K, V> + Drop, K: TableKey + Drop, V: Drop> Drop for CallerOn<T, K, V> {
+    fn drop(self) {
+        let CallerOn { table, pass } = self;
+        drop(table);
+        drop(pass);
+    }
 }
 
 impl<K: TableKey + Drop, V: Drop> Table<K, V> {
@@ -858,6 +867,101 @@ impl<T: TableRef<K, V> + Drop, K: TableKey + Drop, V: Drop> CallerOn<T, K, V> {
             Err(_) => {
                 let why = DrainFault::Memory;
                 Err(NotDrained { caller, why })
+            }
+        }
+    }
+}
+
+impl<T: TableRef<K, V> + Drop, K: TableKey + Drop, V: Drop> CallerOn<T, K, V> {
+    ghost use Rattle.std.specs.Prelude.{Bool};
+    ghost use Rattle.cuckoo_map.specs.Callers.{caller_of, pass_of, IsSameCaller, IsRefusedOn, FindsHeldAmong};
+    ghost use Rattle.cuckoo_map.specs.SeveralKeys.{IsStripeOfAny};
+    ghost use Rattle.cuckoo_map.specs.LockedKeys.{HasLockedKeys, HasRoomForNames};
+    ghost use Rattle.cuckoo_map.specs.RoomForKeys.{IsStripeTried, SeeksRoom, RefusesRoom, names_of};
+
+    /// Locks up to eight different keys: takes their stripes, and carries out the doublings left of
+    /// them. It takes no memory. Refused, it gives the caller back, as `LockedKeysOn::unlock` does
+    /// later: as `Twice` where a key stands twice, else as `Busy`.
+    ///
+    /// ```
+    /// let keys = [&NumKey(1), &NumKey(2)];
+    /// let mut locked = caller.lock_keys(&keys)?;
+    /// ```
+    pub fn lock_keys<Q: Query<K>, const N: usize>(
+        self,
+        keys: &[Q; N],
+    ) -> Result<LockedKeysOn<'_, T, K, V, Q>, KeysNotLocked<CallerOn<T, K, V>>>
+        requires some { 0 < N }
+        requires few { N ≤ 8 }
+        ensures locked { IfOk result (HasLockedKeys
+            (IsStripeOfAny K.hash self.table.settings (map Q.name keys.now)) (map Q.name keys.now)
+            self) }
+        ensures same { IfErr result (λ back. IsSameCaller self back.caller) }
+        ensures refused { IfErr result (λ back.
+            IsRefusedOn K.hash (map Q.name keys.now) self back.caller back.why) }
+        ensures found { IfErr result (λ back. FindsHeldAmong
+            (IsStripeOfAny K.hash self.table.settings (map Q.name keys.now)) self back.caller) }
+    {
+        let CallerOn { table, pass } = self;
+        let mut pass = pass;
+        match table.table().lock_different(&mut pass, keys) {
+            Ok(stripes) => Ok(LockedKeysOn {
+                table,
+                pass,
+                stripes,
+                keys,
+            }),
+            Err(why) => {
+                let caller = CallerOn { table, pass };
+                Err(KeysNotLocked { caller, why })
+            }
+        }
+    }
+
+    /// `lock_keys`, once there is room for each of the keys: no insertion of one of them is refused
+    /// until they are unlocked, whatever is bound and unbound before. If there is none, it is made for
+    /// each key in turn, as `make_room` does. Where that is too little for all at once, since some of
+    /// the keys share buckets or others took it, the table doubles, as for an insertion, and it is
+    /// tried again. If there is room only now that all stripes are taken, all stay locked.
+    ///
+    /// Refused, it gives the caller back: as a call on these keys is, or as an insertion of one of
+    /// them.
+    ///
+    /// ```
+    /// let keys = [&NumKey(1), &NumKey(2)];
+    /// let mut locked = caller.lock_keys_with_room(&keys)?;
+    /// let _ = locked.insert(NumKey(1), 10);
+    /// let _ = locked.insert(NumKey(2), 20);
+    /// let mut caller = locked.unlock();
+    /// ```
+    pub fn lock_keys_with_room<'k>(
+        self,
+        keys: &'k [&'k K],
+    ) -> Result<LockedKeysOn<'k, T, K, V, &'k K>, KeysWithoutRoom<CallerOn<T, K, V>>>
+        requires some { 0 < length keys.now }
+        requires few { length keys.now ≤ 8 }
+        ensures locked { IfOk result (λ locked. (m : _) × (all : Bool)
+            × SeeksRoom K.hash self.table.settings (names_of K.name keys.now) all (pass_of self) m
+            × HasLockedKeys
+            (IsStripeTried K.hash self.table.settings (names_of K.name keys.now) all)
+            (names_of K.name keys.now) (caller_of self.table m) locked) }
+        ensures room { IfOk result (HasRoomForNames K.hash) }
+        ensures same { IfErr result (λ back. IsSameCaller self back.caller) }
+        ensures refused { IfErr result (λ back. RefusesRoom K.hash self.table.settings
+            (names_of K.name keys.now) (pass_of self) (pass_of back.caller) back.why) }
+    {
+        let CallerOn { table, pass } = self;
+        let mut pass = pass;
+        match table.table().lock_with_room(&mut pass, keys) {
+            Ok(stripes) => Ok(LockedKeysOn {
+                table,
+                pass,
+                stripes,
+                keys,
+            }),
+            Err(why) => {
+                let caller = CallerOn { table, pass };
+                Err(KeysWithoutRoom { caller, why })
             }
         }
     }

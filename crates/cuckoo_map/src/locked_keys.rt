@@ -1,20 +1,18 @@
 //! Some keys under one caller.
-ghost use Rattle.std.specs.Prelude.{◌≡◌, ◌<◌, ◌≤◌, Bool, Some, None, IsOk, IfOk, IfErr, MatchOption, MatchBool, length, map, is_some};
+ghost use Rattle.std.specs.Prelude.{◌≡◌, ◌<◌, Some, None, IsOk, IfOk, IfErr, MatchOption, MatchBool, length, map, is_some};
 ghost use Rattle.std.specs.Fn.{FnOnceReturnsAt};
 ghost use Rattle.ck_model.specs.declared.history.Reply.TheVariants.{Closed};
 ghost use Rattle.ck_model.specs.Promise.{Replied};
 ghost use Rattle.ck_model.specs.Numbered.{IsIn};
 ghost use Rattle.ck_core.specs.Trace.{missed_in};
 ghost use Rattle.ck_section.specs.Acts.{Updates, Modifies, Changes, Erases, Inserts, Assigns, Upserts};
-ghost use Rattle.cuckoo_map.specs.Callers.{caller_of, pass_of, IsSameCaller, KeepsNotes, IsRefusedOn, FindsHeldAmong};
+ghost use Rattle.cuckoo_map.specs.Callers.{IsSameCaller, KeepsNotes};
 ghost use Rattle.cuckoo_map.specs.Insertions.{TellsOf};
-ghost use Rattle.cuckoo_map.specs.SeveralKeys.{IsStripeOfAny};
-ghost use Rattle.cuckoo_map.specs.LockedKeys.{HasLockedKeys, ActsOn, value_of, keys_call, LacksSlot, HasRoomForNames, KeepsRoom, name_at};
-ghost use Rattle.cuckoo_map.specs.RoomForKeys.{IsStripeTried, SeeksRoom, RefusesRoom, names_of};
+ghost use Rattle.cuckoo_map.specs.LockedKeys.{ActsOn, value_of, keys_call, LacksSlot, HasRoomForNames, KeepsRoom, name_at};
 
 use crate::caller::CallerOn;
 use crate::locked::make_in;
-use crate::refusal::{KeysNotLocked, KeysWithoutRoom, NoSlot};
+use crate::refusal::NoSlot;
 use crate::table::Table;
 use crate::table_ref::TableRef;
 use ck_key::{KeyHash, Query, TableKey};
@@ -38,10 +36,10 @@ use std::marker::Model;
 /// back; a slot that was emptied before is free for it. No entry is displaced, and the table doesn't
 /// grow.
 pub struct LockedKeysOn<'k, T: TableRef<K, V>, K: TableKey, V, Q: Query<K>> {
-    table: T,
-    pass: Pass<K, V>,
-    stripes: StripeSet,
-    keys: &'k [Q],
+    pub(crate) table: T,
+    pub(crate) pass: Pass<K, V>,
+    pub(crate) stripes: StripeSet,
+    pub(crate) keys: &'k [Q],
 }
 
 /// Keys under a caller that borrows its table.
@@ -57,97 +55,6 @@ impl<'k, T: TableRef<K, V>, K: TableKey, V, Q: Query<K>> Model for LockedKeysOn<
 
     ghost invariant = { λ l.
         HoldsKeys K.hash (T.state l.table) l.stripes (map Q.name l.keys.now) l.pass };
-}
-
-impl<T: TableRef<K, V> + Drop, K: TableKey + Drop, V: Drop> CallerOn<T, K, V> {
-    /// Locks up to eight different keys: takes their stripes, and carries out the doublings left of
-    /// them. It takes no memory. Refused, it gives the caller back, as `LockedKeysOn::unlock` does
-    /// later: as `Twice` where a key stands twice, else as `Busy`.
-    ///
-    /// ```
-    /// let keys = [&NumKey(1), &NumKey(2)];
-    /// let mut locked = caller.lock_keys(&keys)?;
-    /// ```
-    pub fn lock_keys<Q: Query<K>, const N: usize>(
-        self,
-        keys: &[Q; N],
-    ) -> Result<LockedKeysOn<'_, T, K, V, Q>, KeysNotLocked<CallerOn<T, K, V>>>
-        requires some { 0 < N }
-        requires few { N ≤ 8 }
-        ensures locked { IfOk result (HasLockedKeys
-            (IsStripeOfAny K.hash self.table.settings (map Q.name keys.now)) (map Q.name keys.now)
-            self) }
-        ensures same { IfErr result (λ back. IsSameCaller self back.caller) }
-        ensures refused { IfErr result (λ back.
-            IsRefusedOn K.hash (map Q.name keys.now) self back.caller back.why) }
-        ensures found { IfErr result (λ back. FindsHeldAmong
-            (IsStripeOfAny K.hash self.table.settings (map Q.name keys.now)) self back.caller) }
-    {
-        let CallerOn { table, pass } = self;
-        let mut pass = pass;
-        match table.table().lock_different(&mut pass, keys) {
-            Ok(stripes) => Ok(LockedKeysOn {
-                table,
-                pass,
-                stripes,
-                keys,
-            }),
-            Err(why) => {
-                let caller = CallerOn { table, pass };
-                Err(KeysNotLocked { caller, why })
-            }
-        }
-    }
-}
-
-impl<T: TableRef<K, V> + Drop, K: TableKey + Drop, V: Drop> CallerOn<T, K, V> {
-    /// `lock_keys`, once there is room for each of the keys: no insertion of one of them is refused
-    /// until they are unlocked, whatever is bound and unbound before. If there is none, it is made for
-    /// each key in turn, as `make_room` does. Where that is too little for all at once, since some of
-    /// the keys share buckets or others took it, the table doubles, as for an insertion, and it is
-    /// tried again. If there is room only now that all stripes are taken, all stay locked.
-    ///
-    /// Refused, it gives the caller back: as a call on these keys is, or as an insertion of one of
-    /// them.
-    ///
-    /// ```
-    /// let keys = [&NumKey(1), &NumKey(2)];
-    /// let mut locked = caller.lock_keys_with_room(&keys)?;
-    /// let _ = locked.insert(NumKey(1), 10);
-    /// let _ = locked.insert(NumKey(2), 20);
-    /// let mut caller = locked.unlock();
-    /// ```
-    pub fn lock_keys_with_room<'k>(
-        self,
-        keys: &'k [&'k K],
-    ) -> Result<LockedKeysOn<'k, T, K, V, &'k K>, KeysWithoutRoom<CallerOn<T, K, V>>>
-        requires some { 0 < length keys.now }
-        requires few { length keys.now ≤ 8 }
-        ensures locked { IfOk result (λ locked. (m : _) × (all : Bool)
-            × SeeksRoom K.hash self.table.settings (names_of K.name keys.now) all (pass_of self) m
-            × HasLockedKeys
-            (IsStripeTried K.hash self.table.settings (names_of K.name keys.now) all)
-            (names_of K.name keys.now) (caller_of self.table m) locked) }
-        ensures room { IfOk result (HasRoomForNames K.hash) }
-        ensures same { IfErr result (λ back. IsSameCaller self back.caller) }
-        ensures refused { IfErr result (λ back. RefusesRoom K.hash self.table.settings
-            (names_of K.name keys.now) (pass_of self) (pass_of back.caller) back.why) }
-    {
-        let CallerOn { table, pass } = self;
-        let mut pass = pass;
-        match table.table().lock_with_room(&mut pass, keys) {
-            Ok(stripes) => Ok(LockedKeysOn {
-                table,
-                pass,
-                stripes,
-                keys,
-            }),
-            Err(why) => {
-                let caller = CallerOn { table, pass };
-                Err(KeysWithoutRoom { caller, why })
-            }
-        }
-    }
 }
 
 impl<T: TableRef<K, V> + Drop, K: TableKey + Drop, V: Drop, Q: Query<K>> LockedKeysOn<

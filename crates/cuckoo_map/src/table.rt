@@ -22,7 +22,6 @@ use std::marker::Model;
 /// Its calls are those of a [`Caller`](crate::Caller), which has the table and a pass. Here they
 /// get the pass, and want a proof that it is one of this table and in no call. Contracts see which
 /// table it is, and its settings.
-#[derive(Drop)]
 pub struct Table<K: TableKey, V> {
     pub(crate) words: Words<K, V>,
     pub(crate) growth: Growth,
@@ -34,6 +33,15 @@ impl<K: TableKey, V> Model for Table<K, V> {
     ghost Value = { WordsState };
 
     ghost view = { λ t. t.words };
+}
+
+// Written out, so that it is proved here, and not in each program that drops a table.
+impl<K: TableKey + Drop, V: Drop> Drop for Table<K, V> {
+    fn drop(self) {
+        let Table { words, growth } = self;
+        drop(words);
+        drop(growth);
+    }
 }
 
 impl<K: TableKey + Drop, V: Drop> Table<K, V> {
