@@ -17,7 +17,9 @@ pub trait TableKey: Ord {
         ensures { result ≡ hash (name self.now) };
 
     /// Waits, after so many tries to take a stripe that another caller holds. After each 64 it lets
-    /// other threads run. A type of keys that is to wait otherwise has a `pause` of its own.
+    /// other threads run. It does so after none too: an insertion that has carried out a doubling of
+    /// some stripes, and holds none now, calls it with 0. A type of keys that is to wait otherwise has
+    /// a `pause` of its own.
     fn pause(tries: u32) {
         if tries % 64 == 0 {
             thread::yield_now();

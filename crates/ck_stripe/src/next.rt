@@ -16,8 +16,9 @@ pub(crate) enum Next<K: TableKey, V> {
     Reserved(BlankRows<K, V>),
     // The power was raised, and `settle` has to move the entries there.
     Doubled(BlankRows<K, V>),
-    // The entries were moved away from these rows. They aren't freed while the stripe is held, since
-    // that takes a while where an allocator gives memory back to the system.
+    // The entries were moved away from these rows. An insertion takes them out and frees them when it
+    // holds no stripe, since that takes a while where an allocator gives memory back to the system.
+    // What is left of them the next doubling frees.
     Emptied(Rows<K, V>),
 }
 

@@ -109,8 +109,8 @@ impl<K: TableKey + Drop, V: Drop> Words<K, V> {
         pass.emptied = emptied;
     }
 
-    /// Frees what the pass has taken out. It is called when it holds no stripe, since that takes a
-    /// while where an allocator gives memory back to the system.
+    /// Frees what the pass has taken out, and lets other threads run. It is called when it holds no
+    /// stripe, since it takes a while where an allocator gives memory back to the system.
     #[inline(always)]
     pub fn free_emptied(&self, pass: &mut Pass<K, V>)
         ensures { pass.new ≡ pass.old }
@@ -139,6 +139,9 @@ impl<K: TableKey + Drop, V: Drop> Pass<K, V> {
         ensures { self.new ≡ self.old }
     {
         self.emptied = None;
+        // After a doubling a caller mostly holds stripes, whose entries it moves: where its thread loses
+        // the processor, others wait for them. So it offers the processor here, where it holds none.
+        K::pause(0);
     }
 }
 
