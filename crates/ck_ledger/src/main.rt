@@ -8,7 +8,7 @@ mod shared;
 mod tellers;
 
 use anyhow::{Context, Result};
-use cuckoo_map::{Handle, Settings};
+use cuckoo_map::{Handle, NumKey, Settings};
 use std::alloc::Global;
 use std::thread::Threads;
 use tellers::{ACCOUNTS, FUND};
@@ -25,28 +25,40 @@ fn keep(alloc: Global) -> Result<[Option<u64>; 3]> {
     Ok([first, second, ledger::value_of(&mut own, 2)])
 }
 
-/// What is on the accounts after all that the tellers do.
-fn share(rt: &(impl Threads + Sync), alloc: Global) -> Result<u64> {
-    let mut handles = Handle::open(alloc, Settings::for_keys(ACCOUNTS, 6))?;
-    let mut own = handles.pop().context("no handle")?;
+/// Opens the shared accounts.
+fn open_accounts(own: &mut Handle<NumKey, u64>) -> Result<()> {
     for account in 0..ACCOUNTS {
-        shared::open_account(&mut own, account, FUND)?;
+        shared::open_account(own, account, FUND)?;
     }
-    tellers::run_all(rt, alloc, handles)?;
+    Ok(())
+}
+
+/// What is on the shared accounts.
+fn sum_of_accounts(own: &mut Handle<NumKey, u64>) -> Result<u64> {
     let mut sum = 0u64;
     for account in 0..ACCOUNTS {
-        sum = sum.saturating_add(shared::balance(&mut own, account)?);
+        sum = sum.saturating_add(shared::balance(own, account)?);
     }
     Ok(sum)
 }
 
+/// What is on the accounts after all that the tellers do.
+fn share(rt: &(impl Threads + Sync), alloc: Global) -> Result<u64> {
+    let mut handles = Handle::open(alloc, Settings::for_keys(ACCOUNTS, 6))?;
+    let mut own = handles.pop().context("no handle")?;
+    let auditor = handles.pop().context("no handle")?;
+    open_accounts(&mut own)?;
+    tellers::run_all(rt, auditor, handles)?;
+    sum_of_accounts(&mut own)
+}
+
 fn main(rt: HostRuntime) -> Result<()> {
     let [first, second, anew] = keep(rt.alloc())?;
-    println!(rt; "the ledger: {first:?} {second:?}")?;
-    println!(rt; "begun anew: {anew:?}")?;
+    let shared = share(&rt, rt.alloc())?;
     println!(rt;
-        "shared: {} on {ACCOUNTS} accounts",
-        share(&rt, rt.alloc())?
+        "the ledger: {first:?} {second:?}\n\
+         begun anew: {anew:?}\n\
+         shared: {shared} on {ACCOUNTS} accounts"
     )?;
     Ok(())
 }

@@ -2,7 +2,6 @@
 use crate::shared;
 use anyhow::{Result, ensure};
 use cuckoo_map::{Handle, LockedHandle, NumKey};
-use std::alloc::Global;
 use std::thread::{self, Threads};
 
 /// The accounts are numbered from 0.
@@ -52,20 +51,17 @@ fn audit(mut auditor: Teller) -> Result<()> {
     Ok(())
 }
 
-/// What the teller of this number does: the first one audits, and the others work.
-fn run(mut teller: Teller, number: usize) -> Result<()> {
-    if number == 0 {
-        audit(teller)
-    } else {
-        work(&mut teller)
-    }
-}
-
-/// Lets each of them run in a thread of its own.
-pub fn run_all(rt: &(impl Threads + Sync), alloc: Global, tellers: Vec<Teller>) -> Result<()> {
-    let jobs: Vec<(Teller, usize)> = tellers.into_iter().zip(0..5usize).collect(alloc)?;
-    for done in thread::map_vec(rt, jobs, &|(teller, number)| run(teller, number))? {
+/// Lets the tellers pay, each in a thread of its own.
+fn work_all(rt: &(impl Threads + Sync), tellers: Vec<Teller>) -> Result<()> {
+    for done in thread::map_vec(rt, tellers, &|mut teller: Teller| work(&mut teller))? {
         done?;
     }
     Ok(())
+}
+
+/// Lets the tellers pay, and the auditor add up meanwhile.
+pub fn run_all(rt: &(impl Threads + Sync), auditor: Teller, tellers: Vec<Teller>) -> Result<()> {
+    let (audited, worked) = thread::join(rt, || audit(auditor), || work_all(rt, tellers));
+    audited?;
+    worked
 }

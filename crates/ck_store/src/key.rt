@@ -6,7 +6,7 @@ ghost use Rattle.ck_store.specs.SessionKeyLaws.{session_names, session_hash_belo
 use cuckoo_map::{MixedKey, TableKey};
 
 /// A user's session on one of the devices.
-#[derive(Clone, Copy, Debug, PartialEq, Eq, PartialOrd, Ord)]
+#[derive(Clone, Copy, PartialEq, Eq, PartialOrd, Ord)]
 pub struct SessionKey {
     pub user: u32,
     pub device: u32,

@@ -10,22 +10,19 @@ use key::SessionKey;
 use std::alloc::Global;
 use std::thread::{self, Threads};
 
-/// Each device has a thread.
-const DEVICES: u32 = 4;
-
 /// A session ends when it wasn't used for so long.
 const LIFETIME: u64 = 50;
 
 /// So many sessions may be open.
 const LIMIT: u64 = 300;
 
-#[derive(Clone, Copy, Debug, PartialEq, Eq)]
+#[derive(Clone, Copy, PartialEq, Eq)]
 enum Role {
     Guest,
     Member,
 }
 
-#[derive(Clone, Copy, Debug)]
+#[derive(Clone, Copy)]
 struct Session {
     role: Role,
     seen: u64,
@@ -83,15 +80,6 @@ fn serve(client: &mut Client, device: u32) -> Result<()> {
     Ok(())
 }
 
-fn serve_all(rt: &(impl Threads + Sync), alloc: Global, clients: Vec<Client>) -> Result<()> {
-    let jobs: Vec<(Client, u32)> = clients.into_iter().zip(0..DEVICES).collect(alloc)?;
-    let work = |(mut client, device): (Client, u32)| serve(&mut client, device);
-    for done in thread::map_vec(rt, jobs, &work)? {
-        done?;
-    }
-    Ok(())
-}
-
 /// Ends each session that wasn't used lately.
 fn sweep(store: &mut Store, now: u64) {
     store.retain(|_key: &SessionKey, session: &Session| {
@@ -113,19 +101,28 @@ struct Counts {
     left: u64,
 }
 
-/// All clients serve but the last, which then tidies the store.
-fn run(rt: &(impl Threads + Sync), alloc: Global) -> Result<Counts> {
-    let mut clients = Handle::open(alloc, Settings::for_keys(1000, DEVICES + 1))?;
-    let keeper = clients.pop().context("no client")?;
-    serve_all(rt, alloc, clients)?;
-    let mut store = keeper.lock()?;
+/// Ends the sessions that aren't to stay, and counts.
+fn tidy(store: &mut Store) -> Counts {
     let all = store.len();
-    sweep(&mut store, 100);
+    sweep(store, 100);
     let fresh = store.len();
-    trim(&mut store);
+    trim(store);
     let left = store.len();
+    Counts { all, fresh, left }
+}
+
+/// Two clients serve a device each, in threads of their own, and one then tidies the store.
+fn run(rt: &(impl Threads + Sync), alloc: Global) -> Result<Counts> {
+    let mut clients = Handle::open(alloc, Settings::for_keys(1000, 2))?;
+    let mut first = clients.pop().context("no client")?;
+    let mut second = clients.pop().context("no client")?;
+    let (one, two) = thread::join(rt, || serve(&mut first, 0), || serve(&mut second, 1));
+    one?;
+    two?;
+    let mut store = first.lock()?;
+    let counts = tidy(&mut store);
     store.unlock();
-    Ok(Counts { all, fresh, left })
+    Ok(counts)
 }
 
 fn main(rt: HostRuntime) -> Result<()> {
