@@ -109,17 +109,6 @@ impl<K: TableKey + Drop, V: Drop> Words<K, V> {
         pass.emptied = emptied;
     }
 
-    /// Frees what the pass has taken out, and lets other threads run. It is called when it holds no
-    /// stripe, since it takes a while where an allocator gives memory back to the system.
-    #[inline(always)]
-    pub fn free_emptied(&self, pass: &mut Pass<K, V>)
-        ensures { pass.new ≡ pass.old }
-    {
-        if pass.emptied.is_some() {
-            pass.free_emptied();
-        }
-    }
-
     // Carries out the doublings that are left of the stripes of a set, one after another.
     fn settle_each(&self, pass: &mut Pass<K, V>, set: StripeSet)
         requires { HoldsSet self.now set pass.old }
@@ -133,9 +122,17 @@ impl<K: TableKey + Drop, V: Drop> Words<K, V> {
 }
 
 impl<K: TableKey + Drop, V: Drop> Pass<K, V> {
+    /// Whether it has taken out what a doubling has emptied, which `free_emptied` frees.
+    #[inline(always)]
+    pub fn has_emptied(&self) -> bool {
+        self.emptied.is_some()
+    }
+
+    /// Frees what it has taken out, and lets other threads run. It is called when the pass holds no
+    /// stripe, since it takes a while where an allocator gives memory back to the system.
     #[cold]
     #[inline(never)]
-    fn free_emptied(&mut self)
+    pub fn free_emptied(&mut self)
         ensures { self.new ≡ self.old }
     {
         self.emptied = None;

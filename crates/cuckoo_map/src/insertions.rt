@@ -173,7 +173,10 @@ impl<K: TableKey + Drop, V: Drop> Table<K, V> {
         ensures inserted { HasInserted (TellsOf (I.tells insertion value))
             K.hash self.now.settings (K.name key) key value result pass.old pass.new }
     {
-        self.words.free_emptied(pass);
+        // Tested here: the call, which lets other threads run, is followed by a test of what they did.
+        if pass.has_emptied() {
+            pass.free_emptied();
+        }
         let since = Snapshot::of(pass);
         let own = self.stripes_of_key(&key);
         match self.words.lock_now(pass, own.stripes) {
