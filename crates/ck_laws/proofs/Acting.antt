@@ -4,11 +4,11 @@ use mathlib.Core.Logic.{dite}
 use Rattle.std.specs.Cmp.Lexicographic.{nat_list_cmp_total}
 use Rattle.std.specs.FinMap.{get, insert, remove, get-insert, get-remove}
 use Rattle.ck_model.specs.declared.history.Act.TheVariants.{Find, Insert, Assign, Update, Change, Upsert, Erase}
-use Rattle.ck_model.specs.declared.history.Reply.TheVariants.{Was, New, Old, Done, Absent}
+use Rattle.ck_model.specs.declared.history.Reply.TheVariants.{Was, New, Old, Done, DoneTwo, Absent}
 use Rattle.ck_model.specs.declared.history.Reply.{Reply}
-use Rattle.ck_model.specs.Promise.{Name, Map, Answers}
+use Rattle.ck_model.specs.Promise.{Name, Map, Answers, AnswersTwo}
 use Rattle.ck_model.proofs.Names.{dec_name, maps_alike, is_name, no_name}
-use Rattle.ck_laws.specs.Laws.{FindsRead, InsertsBind, InsertsKeep, AssignsBind, UpdatesBind, UpdatesKeep, ChangesBind, ChangesKeep, UpsertsBind, UpsertsChange, ErasesUnbind, BoundIsFound, UnboundIsGone, OthersStay}
+use Rattle.ck_laws.specs.Laws.{FindsRead, InsertsBind, InsertsKeep, AssignsBind, UpdatesBind, UpdatesKeep, ChangesBind, ChangesKeep, UpsertsBind, UpsertsChange, ErasesUnbind, ChangesOfTwoBind, ChangesOfTwoKeep, BoundIsFound, UnboundIsGone, OthersStay}
 
 module _ {V : Type 0} where
   pub get_new : BoundIsFound V
@@ -134,3 +134,39 @@ module _ {V : Type 0} where
   erasing m m2 k o st =
       let a = erase_answer o (get m k) (get m2 k) st.0 in
       (a.0, by_name m m2 (remove m k) k (a.1 ∙ sym (get_gone m k)) st.1 (λ q ne. get_left m k q ne))
+
+  done_two : (v w v2 w2 a b a2 b2 : V) → DoneTwo v w v2 w2 ≡ DoneTwo a b a2 b2 → (Some a ≡ Some v) × (Some b ≡ Some w) × (Some a2 ≡ Some v2) × (Some b2 ≡ Some w2)
+  done_two v w v2 w2 a b a2 b2 e = (cc, cc, cc, cc)
+
+  done_two_apart : (v w v2 w2 : V) → DoneTwo v w v2 w2 ≡ Absent → ⊥
+  done_two_apart v w v2 w2 e = cc
+
+  two_done : (v w v2 w2 : V) (b c o p : Option V) → AnswersTwo b c (DoneTwo v w v2 w2) o p → (b ≡ Some v) × (c ≡ Some w) × (o ≡ Some v2) × (p ≡ Some w2)
+  two_done v w v2 w2 (Some x) (Some y) o p a =
+      let e = done_two v w v2 w2 x y a.0 a.1 a.2 in
+      (e.0, e.1, a.3 ∙ e.2, a.4 ∙ e.3)
+  two_done v w v2 w2 (Some x) None o p a = absurd (done_two_apart v w v2 w2 a.0)
+  two_done v w v2 w2 None c o p a = absurd (done_two_apart v w v2 w2 a.0)
+
+  two_absent : (b c o p : Option V) → AnswersTwo b c Absent o p → (o ≡ b) × (p ≡ c)
+  two_absent (Some x) (Some y) o p a = absurd (done_two_apart x y a.0 a.1 (sym a.2))
+  two_absent (Some x) None o p a = (a.1, a.2)
+  two_absent None c o p a = (a.1, a.2)
+
+  -- maps that have both names bound alike, and the others as a third
+  by_two : (m a b : Map V) (j k : Name) → get a j ≡ get b j → get a k ≡ get b k
+      → ((q : Name) → q ≢ j → q ≢ k → get a q ≡ get m q) → ((q : Name) → q ≢ j → q ≢ k → get b q ≡ get m q) → a ≡ b
+  by_two m a b j k at_j at_k f g = maps_alike a b (λ q. dite (dec_name q j) (λ is. subst (λ (x : Name). get a x ≡ get b x) (sym is) at_j)
+      (λ nj. dite (dec_name q k) (λ is. subst (λ (x : Name). get a x ≡ get b x) (sym is) at_k) (λ nk. f q nj nk ∙ sym (g q nj nk))))
+
+  pub changing_two : ChangesOfTwoBind V
+  changing_two m m2 j k v w v2 w2 st =
+      let a = two_done v w v2 w2 (get m j) (get m k) (get m2 j) (get m2 k) st.1 in
+      let at_j : get (insert (insert m j v2) k w2) j ≡ Some v2 = get_kept (insert m j v2) k j w2 st.0 ∙ get_new m j v2 in
+      (a.0, a.1, by_two m m2 (insert (insert m j v2) k w2) j k (a.2 ∙ sym at_j) (a.3 ∙ sym (get_new (insert m j v2) k w2)) st.2
+      (λ q nj nk. get_kept (insert m j v2) k q w2 nk ∙ get_kept m j q v2 nj))
+
+  pub changing_two_none : ChangesOfTwoKeep V
+  changing_two_none m m2 j k st =
+      let a = two_absent (get m j) (get m k) (get m2 j) (get m2 k) st.1 in
+      by_two m m2 m j k a.0 a.1 st.2 (λ q nj nk. refl)

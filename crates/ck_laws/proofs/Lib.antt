@@ -3,3 +3,4 @@ pub mod Acting
 pub mod Sessions
 pub mod Alone
 pub mod Interleavings
+pub mod Examples

@@ -5,7 +5,7 @@ use Rattle.ck_model.specs.declared.history.Act.TheVariants.{Find, Insert, Assign
 use Rattle.ck_model.specs.declared.history.Call.{Call}
 use Rattle.ck_model.specs.declared.history.Call.TheVariants.{On, ChangeTwo}
 use Rattle.ck_model.specs.declared.history.Reply.{Reply}
-use Rattle.ck_model.specs.declared.history.Reply.TheVariants.{Was, New, Old, Done, Absent}
+use Rattle.ck_model.specs.declared.history.Reply.TheVariants.{Was, New, Old, Done, DoneTwo, Absent}
 use Rattle.ck_model.specs.declared.history.Entry.{Entry}
 use Rattle.ck_model.specs.Promise.{Name, Map, Client, Replied, Step, Leads, After, StartsWith, subhistory, IsInterleaving}
 use Rattle.ck_model.specs.Numbered.{Holds}
@@ -71,6 +71,14 @@ module _ (V : Type 0) where
   -- an erasure tells what was bound, and unbinds
   abbrev pub ErasesUnbind : Type 0
   ErasesUnbind = (m m2 : Map V) (k : Name) (o : Option V) → Step m (On k Erase) (Was o) m2 → (o ≡ get m k) × (m2 ≡ remove m k)
+
+  -- a change of two bound names tells their values, and binds both anew
+  abbrev pub ChangesOfTwoBind : Type 0
+  ChangesOfTwoBind = (m m2 : Map V) (j k : Name) (v w v2 w2 : V) → Step m (ChangeTwo j k) (DoneTwo v w v2 w2) m2 → (get m j ≡ Some v) × (get m k ≡ Some w) × (m2 ≡ insert (insert m j v2) k w2)
+
+  -- one of two names that aren't both bound leaves the map
+  abbrev pub ChangesOfTwoKeep : Type 0
+  ChangesOfTwoKeep = (m m2 : Map V) (j k : Name) → Step m (ChangeTwo j k) Absent m2 → m2 ≡ m
 
   -- what was bound is found
   abbrev pub BoundIsFound : Type 0

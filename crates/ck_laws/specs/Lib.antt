@@ -1,2 +1,3 @@
 pub mod Sole
 pub mod Laws
+pub mod Examples

@@ -13,12 +13,14 @@
 //! ```
 #![tactic(auto)]
 
+ghost use Rattle.ck_model.specs.Promise.{IsLegal};
 ghost use Rattle.ck_laws.specs.Laws.{RepliesAreSteps, RepliesFollowOthers};
 ghost use Rattle.ck_laws.specs.Laws.{FindsRead, InsertsBind, InsertsKeep, AssignsBind, UpdatesBind, UpdatesKeep};
-ghost use Rattle.ck_laws.specs.Laws.{ChangesBind, ChangesKeep, UpsertsBind, UpsertsChange, ErasesUnbind};
+ghost use Rattle.ck_laws.specs.Laws.{ChangesBind, ChangesKeep, UpsertsBind, UpsertsChange, ErasesUnbind, ChangesOfTwoBind, ChangesOfTwoKeep};
 ghost use Rattle.ck_laws.specs.Laws.{BoundIsFound, UnboundIsGone, OthersStay, BeginningsAreOfAll};
 ghost use Rattle.ck_laws.specs.Laws.{SoleRepliesAreSteps, SoleMapsStay, SoleFindsRead, SoleAssignsBind, SoleUpsertsBind, SoleErasesUnbind};
 ghost use Rattle.ck_laws.specs.Laws.{StepsKeepTotals, SoleTransfersKeepTotals, SessionsLeaveTheirMap, SessionsKeepTheirStart, EntriesStandInParts};
+ghost use Rattle.ck_laws.specs.Examples.{a_transfer, a_renaming, from_nowhere, two_new, lost_change, found_erased, half_a_transfer, late_session, name_twice, miscounted};
 
 /// An answered call is a step of the plain map. With one caller it is a step of the map that the
 /// history left before the call. With several, entries of others lead to another map first, and it
@@ -28,8 +30,8 @@ pub fn law_of_replies<V>()
     ensures others { RepliesFollowOthers V }
 {}
 
-/// What a step on one name makes of the plain map, by its act and its reply: a find tells what the
-/// name is bound to, an erasure tells it and unbinds the name, and so on.
+/// What a step on one name, or a change of two, makes of the plain map, by its act and its reply: a
+/// find tells what the name is bound to, an erasure tells it and unbinds the name, and so on.
 ///
 /// From `Step m (On k (Assign v)) (Was o) m2` a caller concludes `o ≡ get m k` and
 /// `m2 ≡ insert m k v`.
@@ -45,6 +47,8 @@ pub fn law_of_acts<V>()
     ensures upsert { UpsertsBind V }
     ensures upsert_bound { UpsertsChange V }
     ensures erase { ErasesUnbind V }
+    ensures change_two { ChangesOfTwoBind V }
+    ensures change_two_unbound { ChangesOfTwoKeep V }
 {}
 
 /// A name that was bound is found with its value, one that was unbound isn't found, and the others
@@ -95,4 +99,20 @@ pub fn law_of_beginnings<V>()
 /// each made transfers alone, there is nothing else.
 pub fn law_of_interleavings<V>()
     ensures { EntriesStandInParts V }
+{}
+
+/// Worked examples of the definitions: the plain map runs through a transfer and a renaming. It runs
+/// through none of the others, in which something was made up, lost, seen by half, seen too late or
+/// counted wrongly.
+pub fn example_histories()
+    ensures transfer { IsLegal a_transfer }
+    ensures renaming { IsLegal a_renaming }
+    ensures from_nowhere { ¬ (IsLegal from_nowhere) }
+    ensures two_new { ¬ (IsLegal two_new) }
+    ensures lost { ¬ (IsLegal lost_change) }
+    ensures erased { ¬ (IsLegal found_erased) }
+    ensures half { ¬ (IsLegal half_a_transfer) }
+    ensures late { ¬ (IsLegal late_session) }
+    ensures twice { ¬ (IsLegal name_twice) }
+    ensures miscounted { ¬ (IsLegal miscounted) }
 {}

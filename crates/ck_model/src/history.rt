@@ -1,12 +1,11 @@
-//! What stands in a history. The table makes no value of these types: contracts speak of them, and
-//! tests make some.
+//! What stands in a history. No program makes a value of these types: contracts speak of them.
 use std::collections::LinkedList;
 
 /// What a key is to every definition: a number key's own number, or a text key's bytes.
 pub type Name = LinkedList<u64>;
 
 /// What a call asks for on one name.
-#[derive(PartialEq, Drop)]
+#[derive(Drop)]
 pub enum Act<V> {
     Find,
     Insert(V),
@@ -32,7 +31,7 @@ pub enum Call<V> {
 }
 
 /// What the plain map replies.
-#[derive(PartialEq, Drop)]
+#[derive(Drop)]
 pub enum Reply<V> {
     /// The value that was bound.
     Was(Option<V>),

@@ -9,9 +9,7 @@ mod fixtures;
 #[cfg(test)]
 mod watched;
 
-// Keys, queries, searches and histories.
-#[cfg(test)]
-mod histories;
+// Keys, queries and searches.
 #[cfg(test)]
 mod keys;
 #[cfg(test)]

@@ -1,4 +1,4 @@
-use Rattle.ck_laws.proofs.Acting.{finding, inserting_new, inserting_old, assigning, updating, updating_none, changing, changing_none, upserting_new, upserting_done, erasing}
+use Rattle.ck_laws.proofs.Acting.{finding, inserting_new, inserting_old, assigning, updating, updating_none, changing, changing_none, upserting_new, upserting_done, erasing, changing_two, changing_two_none}
 use Rattle.ck_laws.proofs.law_of_acts.Goals as goal
 
 pub returns : goal.returns
@@ -14,4 +14,6 @@ returns g c = record {
   upsert = upserting_new;
   upsert_bound = upserting_done;
   erase = erasing;
+  change_two = changing_two;
+  change_two_unbound = changing_two_none;
 }

@@ -1,3 +1,0 @@
-pub mod PlainNames
-pub mod PlainPairs
-pub mod PlainSteps
