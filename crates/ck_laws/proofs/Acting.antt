@@ -162,9 +162,12 @@ module _ {V : Type 0} where
   pub changing_two : ChangesOfTwoBind V
   changing_two m m2 j k v w v2 w2 st =
       let a = two_done v w v2 w2 (get m j) (get m k) (get m2 j) (get m2 k) st.1 in
-      let at_j : get (insert (insert m j v2) k w2) j ≡ Some v2 = get_kept (insert m j v2) k j w2 st.0 ∙ get_new m j v2 in
-      (a.0, a.1, by_two m m2 (insert (insert m j v2) k w2) j k (a.2 ∙ sym at_j) (a.3 ∙ sym (get_new (insert m j v2) k w2)) st.2
-      (λ q nj nk. get_kept (insert m j v2) k q w2 nk ∙ get_kept m j q v2 nj))
+      let at_j : get (insert (insert m j v2) k w2) j ≡ Some v2 = get_kept (insert m j v2) k j w2 st.0 ∙ get_new m j v2 in (
+        a.0,
+        a.1,
+        by_two m m2 (insert (insert m j v2) k w2) j k (a.2 ∙ sym at_j) (a.3 ∙ sym (get_new (insert m j v2) k w2)) st.2
+            (λ q nj nk. get_kept (insert m j v2) k q w2 nk ∙ get_kept m j q v2 nj),
+      )
 
   pub changing_two_none : ChangesOfTwoKeep V
   changing_two_none m m2 j k st =

@@ -43,7 +43,7 @@ changes_two : (m : Map ℕ) (j k : Name) (v w v2 w2 : ℕ) → j ≢ k → get m
 changes_two m j k v w v2 w2 ne e f =
     let at_j : get (insert (insert m j v2) k w2) j ≡ Some v2 = keeps (insert m j v2) k j w2 ne ∙ has m j v2 in
     let both : AnswersTwo (Some v) (Some w) (DoneTwo v w v2 w2) (get (insert (insert m j v2) k w2) j) (get (insert (insert m j v2) k w2) k)
-        = (v2, w2, refl, at_j, has (insert m j v2) k w2) in
+    = (v2, w2, refl, at_j, has (insert m j v2) k w2) in
     let one = subst (λ (o : Option ℕ). AnswersTwo (Some v) o (DoneTwo v w v2 w2) (get (insert (insert m j v2) k w2) j) (get (insert (insert m j v2) k w2) k)) (sym f) both in
     let two = subst (λ (o : Option ℕ). AnswersTwo o (get m k) (DoneTwo v w v2 w2) (get (insert (insert m j v2) k w2) j) (get (insert (insert m j v2) k w2) k)) (sym e) one in
     (ne, two, λ q nj nk. keeps (insert m j v2) k q w2 nk ∙ keeps m j q v2 nj)
@@ -67,12 +67,26 @@ ten_still = keeps bound_ten payee payer 5 apart ∙ has empty payer 10
 
 pub transfer_is_legal : IsLegal a_transfer
 unfolding bound_ten bound_both transferred
-transfer_is_legal = (transferred,
-    (bound_ten, inserts empty payer 10 (get-empty name_cmp payer),
-    (bound_both, inserts bound_ten payee 5 ten_alone,
-    (transferred, changes_two bound_both payer payee 10 5 6 9 apart ten_still (has bound_ten payee 5),
-    (transferred, finds transferred payer (Some 6) (keeps (insert bound_both payer 6) payee payer 9 apart ∙ has bound_both payer 6),
-    refl)))))
+transfer_is_legal = (
+  transferred,
+  (
+    bound_ten,
+    inserts empty payer 10 (get-empty name_cmp payer),
+    (
+      bound_both,
+      inserts bound_ten payee 5 ten_alone,
+      (
+        transferred,
+        changes_two bound_both payer payee 10 5 6 9 apart ten_still (has bound_ten payee 5),
+        (
+          transferred,
+          finds transferred payer (Some 6) (keeps (insert bound_both payer 6) payee payer 9 apart ∙ has bound_both payer 6),
+          refl,
+        ),
+      ),
+    ),
+  ),
+)
 
 bound_five : Map ℕ
 bound_five = insert empty payer 5
@@ -87,20 +101,36 @@ gone = keeps (remove bound_five payer) payee payer 5 apart ∙ get_gone bound_fi
 renames : Step bound_five (SessionOn (payer ∷ payee ∷ []) (Some 5 ∷ None ∷ []) (None ∷ Some 5 ∷ [])) Closed renamed
 unfolding bound_five renamed
 renames =
-    let five_alone : get bound_five payee ≡ None = keeps empty payer payee 5 apart_too ∙ get-empty name_cmp payee in
-    (refl, ((λ i. ⊎_elim (λ e. apart (sym e)) (λ z. z) i), ((λ i. i), tt)),
-    (λ i. has empty payer 5 i ∷ five_alone i ∷ []),
-    (λ i. gone i ∷ has (remove bound_five payer) payee 5 i ∷ []),
-    λ q n. keeps (remove bound_five payer) payee q 5 (λ e. n (inr (inl (sym e)))) ∙ (get_others bound_five payer q 0 (λ e. n (inl (sym e)))).1)
+    let five_alone : get bound_five payee ≡ None = keeps empty payer payee 5 apart_too ∙ get-empty name_cmp payee in (
+      refl,
+      ((λ i. ⊎_elim (λ e. apart (sym e)) (λ z. z) i), ((λ i. i), tt)),
+      (λ i. has empty payer 5 i ∷ five_alone i ∷ []),
+      (λ i. gone i ∷ has (remove bound_five payer) payee 5 i ∷ []),
+      λ q n. keeps (remove bound_five payer) payee q 5 (λ e. n (inr (inl (sym e)))) ∙ (get_others bound_five payer q 0 (λ e. n (inl (sym e)))).1,
+    )
 
 pub renaming_is_legal : IsLegal a_renaming
 unfolding bound_five renamed
-renaming_is_legal = (renamed,
-    (bound_five, inserts empty payer 5 (get-empty name_cmp payer),
-    (renamed, renames,
-    (renamed, finds renamed payer None gone,
-    (renamed, finds renamed payee (Some 5) (has (remove bound_five payer) payee 5),
-    refl)))))
+renaming_is_legal = (
+  renamed,
+  (
+    bound_five,
+    inserts empty payer 5 (get-empty name_cmp payer),
+    (
+      renamed,
+      renames,
+      (
+        renamed,
+        finds renamed payer None gone,
+        (
+          renamed,
+          finds renamed payee (Some 5) (has (remove bound_five payer) payee 5),
+          refl,
+        ),
+      ),
+    ),
+  ),
+)
 
 -- a name is bound to two numbers
 two_values : (o : Option ℕ) (v w : ℕ) → o ≡ Some v → o ≡ Some w → v ≢ w → ⊥

@@ -4,3 +4,4 @@ pub mod Sessions
 pub mod Alone
 pub mod Interleavings
 pub mod Examples
+pub mod Resetting

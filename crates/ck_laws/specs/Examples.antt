@@ -1,6 +1,6 @@
 -- Histories of a plain map of numbers that are legal, and some that aren't, as a test of the definitions.
 use Rattle.std.specs.Prelude.{ℕ, List, [], ◌∷◌, Some, None}
-use Rattle.ck_model.specs.declared.history.Act.TheVariants.{Find, Insert, Change, Upsert, Erase}
+use Rattle.ck_model.specs.declared.history.Act.TheVariants.{Find, Insert, Change, Erase}
 use Rattle.ck_model.specs.declared.history.Call.{Call}
 use Rattle.ck_model.specs.declared.history.Call.TheVariants.{On, ChangeTwo, Len, SessionOn, Session}
 use Rattle.ck_model.specs.declared.history.Reply.{Reply}

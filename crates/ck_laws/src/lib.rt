@@ -1,17 +1,19 @@
 //! What a program may conclude from the contracts of its calls. The functions do nothing: their
-//! contracts are the laws.
+//! contracts are the laws. An example stands by itself: `ledger`, a handle as a plain map.
 //!
 //! The contract of a call says which entry the history of the table has more (`Replied`). These
 //! laws say what that means for the plain map: a handle without others (`IsSole`) makes a call, and
 //! then the map that it had (`HasMap`) has gone by the call (`Maps`). A proof takes a law by its
-//! name in `proofs`: `Rattle.ck_laws.proofs.Alone.{found}` is that of `find`. `ck_ledger` proves so
-//! what its `value_of` promises:
+//! name in `proofs`: `Rattle.ck_laws.proofs.Alone.{found}` is that of `find`. So is proved what
+//! `ledger::value_of` promises:
 //!
 //! ```text
 //! returns-clause-found c = found (c.args.account ∷ []) c.args.own.now c.find.new.self
 //!     c.in-Ok.value c.requires c.in-Ok.ensures.answered
 //! ```
 #![tactic(auto)]
+
+pub mod ledger;
 
 ghost use Rattle.ck_model.specs.Promise.{IsLegal};
 ghost use Rattle.ck_laws.specs.Laws.{RepliesAreSteps, RepliesFollowOthers};

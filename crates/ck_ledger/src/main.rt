@@ -3,15 +3,14 @@
 //! again and finds all of it each time.
 #![tactic(auto)]
 
-mod ledger;
-mod shared;
 mod tellers;
 
 use anyhow::{Context, Result};
-use cuckoo_map::{Handle, NumKey, Settings};
+use ck_laws::ledger;
+use cuckoo_map::{Handle, Settings};
 use std::alloc::Global;
 use std::thread::Threads;
-use tellers::{ACCOUNTS, FUND};
+use tellers::{ACCOUNTS, open_accounts, run_all};
 
 /// Two accounts of a ledger after a transfer, and one after it was begun anew.
 fn keep(alloc: Global) -> Result<[Option<u64>; 3]> {
@@ -25,31 +24,12 @@ fn keep(alloc: Global) -> Result<[Option<u64>; 3]> {
     Ok([first, second, ledger::value_of(&mut own, 2)])
 }
 
-/// Opens the shared accounts.
-fn open_accounts(own: &mut Handle<NumKey, u64>) -> Result<()> {
-    for account in 0..ACCOUNTS {
-        shared::open_account(own, account, FUND)?;
-    }
-    Ok(())
-}
-
-/// What is on the shared accounts.
-fn sum_of_accounts(own: &mut Handle<NumKey, u64>) -> Result<u64> {
-    let mut sum = 0u64;
-    for account in 0..ACCOUNTS {
-        sum = sum.saturating_add(shared::balance(own, account)?);
-    }
-    Ok(sum)
-}
-
-/// What is on the accounts after all that the tellers do.
+/// What the auditor of shared accounts finds.
 fn share(rt: &(impl Threads + Sync), alloc: Global) -> Result<u64> {
-    let mut handles = Handle::open(alloc, Settings::for_keys(ACCOUNTS, 6))?;
-    let mut own = handles.pop().context("no handle")?;
-    let auditor = handles.pop().context("no handle")?;
-    open_accounts(&mut own)?;
-    tellers::run_all(rt, auditor, handles)?;
-    sum_of_accounts(&mut own)
+    let mut handles = Handle::open(alloc, Settings::for_keys(ACCOUNTS, 5))?;
+    let mut auditor = handles.pop().context("no handle")?;
+    open_accounts(&mut auditor)?;
+    run_all(rt, auditor, handles)
 }
 
 fn main(rt: HostRuntime) -> Result<()> {

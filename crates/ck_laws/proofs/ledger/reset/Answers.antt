@@ -1,8 +1,8 @@
 use Rattle.std.proofs.Common.{ℕ, [], ◌∷◌, sym, ◌∙◌, subst}
 use Rattle.cuckoo_map.specs.Locking.{LockedState, EndsSession}
-use Rattle.ck_ledger.proofs.Resetting.{reset_leaves, assigned_in, on_true, no_true}
-use Rattle.ck_ledger.proofs.ledger.reset.Goals as goal
-use Rattle.ck_ledger.proofs.ledger.reset.Goals.{then-is_ok, else-is_ok}
+use Rattle.ck_laws.proofs.Resetting.{reset_leaves, assigned_in, on_true, no_true}
+use Rattle.ck_laws.proofs.ledger.reset.Goals as goal
+use Rattle.ck_laws.proofs.ledger.reset.Goals.{then-is_ok, else-is_ok}
 
 pub returns-clause-begun : goal.returns-clause-begun
 returns-clause-begun c = elim c.if-is_ok.branch [

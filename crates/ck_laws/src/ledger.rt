@@ -1,4 +1,4 @@
-//! Values by numbers, in a table with one handle.
+//! An example: values by numbers, in a table with one handle, which is proved to be a plain map.
 ghost use Rattle.std.specs.Prelude.{◌≡◌, ◌≢◌, ◌+◌, ℕ, ◌∷◌, [], IfOk, OnOk, IsOk, OnErr, Some, None};
 ghost use Rattle.std.specs.Bool.{OnTrue};
 ghost use Rattle.std.specs.FinMap.{empty, get, entries, insert};
