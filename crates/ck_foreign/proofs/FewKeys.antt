@@ -8,7 +8,7 @@ use Rattle.ck_foreign.specs.declared.several.CuckooEntry.{CuckooEntry}
 use Rattle.ck_model.specs.declared.history.Call.TheVariants.{SessionOn}
 use Rattle.ck_model.specs.declared.history.Reply.TheVariants.{Closed}
 use Rattle.ck_model.specs.Promise.{Name}
-use Rattle.cuckoo_map.specs.declared.refusal.KeysRefused.{KeysRefused}
+use Rattle.ck_refusal.specs.declared.refusal.KeysRefused.{KeysRefused}
 use Rattle.cuckoo_map.specs.Callers.{CallerState, KeysLeave, Replies}
 use Rattle.ck_foreign.specs.declared.code.Code.{Code}
 use Rattle.ck_foreign.specs.Handles.{Calls}

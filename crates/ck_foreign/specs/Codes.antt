@@ -4,17 +4,17 @@ use Rattle.ck_section.specs.declared.two_keys.Renamed.{Renamed}
 use Rattle.ck_section.specs.declared.two_keys.Renamed.TheVariants as renamed
 use Rattle.ck_foreign.specs.declared.code.Code.{Code}
 use Rattle.ck_foreign.specs.declared.code.Code.TheVariants as codes
-use Rattle.cuckoo_map.specs.declared.refusal.Busy.{Busy}
-use Rattle.cuckoo_map.specs.declared.refusal.Why.{Why}
-use Rattle.cuckoo_map.specs.declared.refusal.Why.TheVariants as whys
-use Rattle.cuckoo_map.specs.declared.refusal.Refused.{Refused}
-use Rattle.cuckoo_map.specs.declared.refusal.KeysRefused.{KeysRefused}
-use Rattle.cuckoo_map.specs.declared.refusal.KeysRefused.TheVariants as keys
-use Rattle.cuckoo_map.specs.declared.refusal.NotRenamed.{NotRenamed}
-use Rattle.cuckoo_map.specs.declared.refusal.RoomFault.{RoomFault}
-use Rattle.cuckoo_map.specs.declared.refusal.RoomFault.TheVariants as renames
-use Rattle.cuckoo_map.specs.declared.refusal.GrowFault.{GrowFault}
-use Rattle.cuckoo_map.specs.declared.refusal.GrowFault.TheVariants as faults
+use Rattle.ck_refusal.specs.declared.refusal.Busy.{Busy}
+use Rattle.ck_refusal.specs.declared.refusal.Why.{Why}
+use Rattle.ck_refusal.specs.declared.refusal.Why.TheVariants as whys
+use Rattle.ck_refusal.specs.declared.refusal.Refused.{Refused}
+use Rattle.ck_refusal.specs.declared.refusal.KeysRefused.{KeysRefused}
+use Rattle.ck_refusal.specs.declared.refusal.KeysRefused.TheVariants as keys
+use Rattle.ck_refusal.specs.declared.refusal.NotRenamed.{NotRenamed}
+use Rattle.ck_refusal.specs.declared.refusal.RoomFault.{RoomFault}
+use Rattle.ck_refusal.specs.declared.refusal.RoomFault.TheVariants as renames
+use Rattle.ck_refusal.specs.declared.refusal.GrowFault.{GrowFault}
+use Rattle.ck_refusal.specs.declared.refusal.GrowFault.TheVariants as faults
 
 -- the numbers of the header: an answer is at least 0, a refusal below
 abbrev pub number_of : Code → ℤ

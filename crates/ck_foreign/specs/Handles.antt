@@ -2,8 +2,8 @@
 use Rattle.std.specs.Prelude.{◌≡◌, ◌⊎◌, ℕ, ◌+◌, ◌-◌, ◌*◌, ◌^◌, Bool, Option, Some, None, Result, IfOk, IfErr, OnOk, if◌then◌else◌, min, nat_eq}
 use Rattle.ck_foreign.specs.declared.code.Code.{Code}
 use Rattle.ck_foreign.specs.declared.code.Code.TheVariants as codes
-use Rattle.cuckoo_map.specs.declared.refusal.Busy.{Busy}
-use Rattle.cuckoo_map.specs.declared.refusal.GrowFault.{GrowFault}
+use Rattle.ck_refusal.specs.declared.refusal.Busy.{Busy}
+use Rattle.ck_refusal.specs.declared.refusal.GrowFault.{GrowFault}
 use Rattle.cuckoo_map.specs.Callers.{CallerState, IsSameCaller, Counts, KeepsNotes, StaysAsIs, StaysButDoublings, GrowsFor, IsBusyOnAny, IsBusyOnSome, FindsHeldOfAny, FindsHeldAmong}
 
 -- The handle was open, and its caller c is d after the call, which left this; or it was closed, stays so, and C is told it.

@@ -10,9 +10,9 @@ use Rattle.ck_model.specs.declared.history.Call.TheVariants.{Session}
 use Rattle.ck_model.specs.declared.history.Reply.TheVariants.{Closed}
 use Rattle.ck_foreign.specs.declared.code.Code.{Code}
 use Rattle.ck_foreign.specs.declared.code.Code.TheVariants as codes
-use Rattle.cuckoo_map.specs.declared.refusal.Busy.{Busy}
-use Rattle.cuckoo_map.specs.declared.refusal.DrainFault.{DrainFault}
-use Rattle.cuckoo_map.specs.declared.refusal.DrainFault.TheVariants as faults
+use Rattle.ck_refusal.specs.declared.refusal.Busy.{Busy}
+use Rattle.ck_refusal.specs.declared.refusal.DrainFault.{DrainFault}
+use Rattle.ck_refusal.specs.declared.refusal.DrainFault.TheVariants as faults
 use Rattle.cuckoo_map.specs.Callers.{CallerState, IsSameCaller, KeepsNotes, Replies, IsBusyOnAny, FindsHeldOfAny, IsNotDrained}
 
 -- A table with these settings can be opened in so many places.

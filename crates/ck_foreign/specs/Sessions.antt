@@ -10,8 +10,8 @@ use Rattle.ck_foreign.specs.declared.code.Code.{Code}
 use Rattle.ck_foreign.specs.declared.code.Code.TheVariants as codes
 use Rattle.ck_foreign.specs.Codes.{TellsValue, TellsFresh, TellsOld}
 use Rattle.ck_foreign.specs.Openings.{TellsNoPlace}
-use Rattle.cuckoo_map.specs.declared.refusal.Busy.{Busy}
-use Rattle.cuckoo_map.specs.declared.refusal.Refused.{Refused}
+use Rattle.ck_refusal.specs.declared.refusal.Busy.{Busy}
+use Rattle.ck_refusal.specs.declared.refusal.Refused.{Refused}
 use Rattle.cuckoo_map.specs.Callers.{CallerState, pass_of, IsSameCaller, Replies, IsBusyOnAny, FindsHeldOfAny}
 use Rattle.cuckoo_map.specs.Locking.{LockedState, map_of, session_call, HasLocked, HasChanged, EndsSession, EndsNotes, Clears, LockedInsertionLeaves}
 

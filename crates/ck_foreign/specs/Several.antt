@@ -2,7 +2,7 @@
 use Rattle.std.specs.Prelude.{◌≡◌, ◌⊎◌, ⊤, ℕ, ◌+◌, ◌-◌, ◌^◌, ◌<◌, ◌≤◌, List, [], ◌∷◌, Bool, true, false, Option, Some, None, IsSome, All, Result, if◌then◌else◌, nat_eq, nat_lt, map}
 use Rattle.ck_model.specs.Promise.{Name}
 use Rattle.ck_key.specs.Hashes.{mixed_hash}
-use Rattle.cuckoo_map.specs.declared.refusal.KeysRefused.{KeysRefused}
+use Rattle.ck_refusal.specs.declared.refusal.KeysRefused.{KeysRefused}
 use Rattle.cuckoo_map.specs.Callers.{CallerState, KeysLeave}
 use Rattle.cuckoo_map.specs.SeveralKeys.{FindsAll, ModifiesAll}
 use Rattle.ck_foreign.specs.declared.code.Code.{Code}

@@ -2,11 +2,11 @@
 ghost use Rattle.std.specs.Prelude.{◌≡◌, ◌<◌, ◌≤◌, ℕ, Bool, Option, None, Result, nat_eq, length, map};
 ghost use Rattle.ck_section.specs.Acts.{Finds, FindsBound, Inserts, Assigns, Upserts, Modifies, ErasesBy, Erases};
 ghost use Rattle.ck_section.specs.declared.two_keys.Renamed.{Renamed};
-ghost use Rattle.cuckoo_map.specs.declared.refusal.Busy.{Busy};
-ghost use Rattle.cuckoo_map.specs.declared.refusal.GrowFault.{GrowFault};
-ghost use Rattle.cuckoo_map.specs.declared.refusal.KeysRefused.{KeysRefused};
-ghost use Rattle.cuckoo_map.specs.declared.refusal.NotRenamed.{NotRenamed};
-ghost use Rattle.cuckoo_map.specs.declared.refusal.Refused.{Refused};
+ghost use Rattle.ck_refusal.specs.declared.refusal.Busy.{Busy};
+ghost use Rattle.ck_refusal.specs.declared.refusal.GrowFault.{GrowFault};
+ghost use Rattle.ck_refusal.specs.declared.refusal.KeysRefused.{KeysRefused};
+ghost use Rattle.ck_refusal.specs.declared.refusal.NotRenamed.{NotRenamed};
+ghost use Rattle.ck_refusal.specs.declared.refusal.Refused.{Refused};
 ghost use Rattle.cuckoo_map.specs.Callers.{CallerState, QueryLeaves, InsertionLeaves, KeysLeave};
 ghost use Rattle.cuckoo_map.specs.Renames.{RenameLeaves};
 ghost use Rattle.cuckoo_map.specs.SeveralKeys.{FindsAll};

@@ -2,7 +2,7 @@
 //! handle by value, so it leaves its box for that; the box is kept, so that no memory is needed to
 //! put the handle back.
 ghost use Rattle.std.specs.Prelude.{◌≡◌, Result, Option, Some, None, MatchResult};
-ghost use Rattle.cuckoo_map.specs.declared.refusal.Busy.{Busy};
+ghost use Rattle.ck_refusal.specs.declared.refusal.Busy.{Busy};
 ghost use Rattle.cuckoo_map.specs.Callers.{Drains};
 ghost use Rattle.ck_foreign.specs.Handles.{Calls};
 ghost use Rattle.ck_foreign.specs.Openings.{ClearLeaves, TellsCleared, Exports, ListLeaves, ListsAt, TellsList, TellsNoPlace, TellsNoSession};

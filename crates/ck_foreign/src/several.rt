@@ -2,7 +2,7 @@
 ghost use Rattle.std.specs.Prelude.{◌≡◌, ◌≢◌, ◌∷◌, [], ℕ, ◌<◌, ◌≤◌, Bool, Option, Result, IsSome, All, length, map};
 ghost use Rattle.std.specs.Bool.{OnTrue, OnFalse};
 ghost use Rattle.ck_key.specs.Hashes.{mixed_hash};
-ghost use Rattle.cuckoo_map.specs.declared.refusal.KeysRefused.{KeysRefused};
+ghost use Rattle.ck_refusal.specs.declared.refusal.KeysRefused.{KeysRefused};
 ghost use Rattle.cuckoo_map.specs.Callers.{KeysLeave};
 ghost use Rattle.cuckoo_map.specs.SeveralKeys.{ModifiesAll};
 ghost use Rattle.ck_foreign.specs.Codes.{TellsChange};

@@ -15,8 +15,8 @@ use Rattle.ck_core.specs.Trace.{decided_in, steps_of}
 use Rattle.ck_words.specs.Words.{WordsState}
 use Rattle.ck_words.specs.Passes.{PassState}
 use Rattle.ck_words.specs.Closing.{IsCaller}
-use Rattle.cuckoo_map.specs.declared.refusal.Why.{Why}
-use Rattle.cuckoo_map.specs.declared.refusal.Why.TheVariants.{Busy, Memory, Full, LoadTooLow}
+use Rattle.ck_refusal.specs.declared.refusal.Why.{Why}
+use Rattle.ck_refusal.specs.declared.refusal.Why.TheVariants.{Busy, Memory, Full, LoadTooLow}
 use Rattle.cuckoo_map.specs.Refusals.{IsRefused}
 use Rattle.cuckoo_map.specs.Callers.{CallerState, caller_of, pass_of, IsSameCaller}
 use Rattle.ck_format.specs.declared.script.Command.{Command}

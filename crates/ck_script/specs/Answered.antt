@@ -10,9 +10,9 @@ use Rattle.ck_core.specs.Trace.{decided_in, steps_of}
 use Rattle.ck_words.specs.Retries.{WatchesMore, FindsLast}
 use Rattle.cuckoo_map.specs.Callers.{CallerState, pass_of, IsSameCaller}
 use Rattle.cuckoo_map.specs.Refusals.{HasNoted}
-use Rattle.cuckoo_map.specs.declared.refusal.Why.{Why}
-use Rattle.cuckoo_map.specs.declared.refusal.Why.TheVariants.{Busy, Full, LoadTooLow}
-use Rattle.cuckoo_map.specs.declared.refusal.Why.TheVariants as why
+use Rattle.ck_refusal.specs.declared.refusal.Why.{Why}
+use Rattle.ck_refusal.specs.declared.refusal.Why.TheVariants.{Busy, Full, LoadTooLow}
+use Rattle.ck_refusal.specs.declared.refusal.Why.TheVariants as why
 use Rattle.ck_model.specs.declared.history.Reason.{Reason}
 use Rattle.ck_model.specs.declared.history.Reason.TheVariants as reason
 use Rattle.ck_format.specs.declared.script.Command.TheVariants as command

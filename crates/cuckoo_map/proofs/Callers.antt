@@ -16,11 +16,11 @@ use Rattle.ck_words.specs.Retries.{WatchesMore, DecidesThenGives, StaysBut, Find
 use Rattle.ck_words.specs.Answering.{IsAnswered, IsAnsweredBut, IsAnsweredOn}
 use Rattle.ck_words.specs.Closing.{IsCaller}
 use Rattle.ck_core.specs.State.{client_of}
-use Rattle.cuckoo_map.specs.declared.refusal.Busy.{Busy}
-use Rattle.cuckoo_map.specs.declared.refusal.KeysRefused.{KeysRefused}
-use Rattle.cuckoo_map.specs.declared.refusal.KeysRefused.TheVariants as refused
-use Rattle.cuckoo_map.specs.declared.refusal.Refused.{Refused}
-use Rattle.cuckoo_map.specs.declared.refusal.Why.{Why}
+use Rattle.ck_refusal.specs.declared.refusal.Busy.{Busy}
+use Rattle.ck_refusal.specs.declared.refusal.KeysRefused.{KeysRefused}
+use Rattle.ck_refusal.specs.declared.refusal.KeysRefused.TheVariants as refused
+use Rattle.ck_refusal.specs.declared.refusal.Refused.{Refused}
+use Rattle.ck_refusal.specs.declared.refusal.Why.{Why}
 use Rattle.cuckoo_map.specs.Refusals.{IsBusyAmong, FindsOwnUnlessFull, IsRefused}
 use Rattle.cuckoo_map.specs.Needed.{HasGrownFor}
 use Rattle.cuckoo_map.specs.Queries.{HasQueried}

@@ -8,7 +8,7 @@ use Rattle.ck_model.specs.Contents.{power_of}
 use Rattle.ck_core.specs.Steps.{growing}
 use Rattle.ck_words.specs.Words.{WordsState}
 use Rattle.ck_words.proofs.Staying.{watches_on, decides_since}
-use Rattle.cuckoo_map.specs.declared.refusal.DrainFault.TheVariants as drain
+use Rattle.ck_refusal.specs.declared.refusal.DrainFault.TheVariants as drain
 use Rattle.cuckoo_map.specs.Callers.{CallerState, pass_of, Replies, KeepsNotesBut, KeepsNotes}
 use Rattle.cuckoo_map.specs.Locking.{LockedState, start_of, map_of, locked_power, session_call, IsSameSession, HasLocked, Clears, EndsNotes}
 use Rattle.cuckoo_map.proofs.Calls.{replied_since}

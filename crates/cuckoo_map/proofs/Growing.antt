@@ -26,7 +26,7 @@ use Rattle.ck_words.specs.Renewing.{HasRenewed}
 use Rattle.ck_words.specs.Closing.{IsWhole}
 use Rattle.ck_words.proofs.Reversed.{held_reverse, lawful_reverse}
 use Rattle.ck_words.proofs.Staying.{stays_on}
-use Rattle.cuckoo_map.specs.declared.refusal.GrowFault.TheVariants.{Busy, Memory}
+use Rattle.ck_refusal.specs.declared.refusal.GrowFault.TheVariants.{Busy, Memory}
 use Rattle.cuckoo_map.specs.Refusals.{IsStripeIn, IsBusyAmong}
 use Rattle.cuckoo_map.specs.Growth.{Rehashes}
 use Rattle.cuckoo_map.proofs.Counted.{one_of_lawful, told_first, counting_as, stays_counting, growing_some}

@@ -28,7 +28,7 @@ use Rattle.ck_words.specs.Closing.{IsCaller, IsWhole}
 use Rattle.ck_words.proofs.AreHeld.{numbers_settled}
 use Rattle.ck_words.proofs.Renewals.{renewed_none}
 use Rattle.ck_words.proofs.WholeTables.{lawful_held}
-use Rattle.cuckoo_map.specs.Refusals.{why_of}
+use Rattle.ck_refusal.specs.Faults.{why_of}
 use Rattle.cuckoo_map.specs.SeveralKeys.{HoldsNames}
 use Rattle.cuckoo_map.specs.RoomForKeys.{HoldsTooLittle, GrowsForAll, IsNotGrown}
 use Rattle.cuckoo_map.proofs.Counted.{changes_none, none_made, one_power_table, released_alike}

@@ -18,8 +18,8 @@ use Rattle.ck_section.proofs.Tables.{power_shown}
 use Rattle.ck_words.specs.Words.{WordsState}
 use Rattle.ck_words.specs.Passes.{PassState}
 use Rattle.ck_words.proofs.Reversed.{of_reverse}
-use Rattle.cuckoo_map.specs.declared.refusal.GrowFault.{GrowFault}
-use Rattle.cuckoo_map.specs.declared.refusal.GrowFault.TheVariants.{Memory}
+use Rattle.ck_refusal.specs.declared.refusal.GrowFault.{GrowFault}
+use Rattle.ck_refusal.specs.declared.refusal.GrowFault.TheVariants.{Memory}
 use Rattle.cuckoo_map.specs.Locking.{LockedState, locked_of, map_of, locked_power, IsLocked, KeepsMap, RehashesLocked}
 use Rattle.cuckoo_map.proofs.Growing.{settles_table}
 use Rattle.cuckoo_map.proofs.Sessions.{locked_again, not_below, had_all, counts_locked, few_locked}

@@ -34,12 +34,12 @@ use Rattle.ck_words.specs.Answering.{HasDone, HasCommitted, IsAnswered, session_
 use Rattle.ck_words.specs.Closing.{IsCaller}
 use Rattle.ck_words.proofs.Renewals.{done_then}
 use Rattle.ck_words.proofs.Staying.{stays_same, stays_then}
-use Rattle.cuckoo_map.specs.declared.refusal.KeysRefused.{KeysRefused}
-use Rattle.cuckoo_map.specs.declared.refusal.KeysRefused.TheVariants as keys
-use Rattle.cuckoo_map.specs.declared.refusal.RoomFault.{RoomFault}
-use Rattle.cuckoo_map.specs.declared.refusal.RoomFault.TheVariants as fault
-use Rattle.cuckoo_map.specs.declared.refusal.NotRenamed.{NotRenamed}
-use Rattle.cuckoo_map.specs.declared.refusal.Why.{Why}
+use Rattle.ck_refusal.specs.declared.refusal.KeysRefused.{KeysRefused}
+use Rattle.ck_refusal.specs.declared.refusal.KeysRefused.TheVariants as keys
+use Rattle.ck_refusal.specs.declared.refusal.RoomFault.{RoomFault}
+use Rattle.ck_refusal.specs.declared.refusal.RoomFault.TheVariants as fault
+use Rattle.ck_refusal.specs.declared.refusal.NotRenamed.{NotRenamed}
+use Rattle.ck_refusal.specs.declared.refusal.Why.{Why}
 use Rattle.cuckoo_map.specs.Refusals.{FindsOwnUnlessFull, SaysOf, SaysNoRoom, IsRefused}
 use Rattle.cuckoo_map.specs.Insertions.{HasFoundNoRoom, HasRoomInAll, HasSoughtRoom}
 use Rattle.cuckoo_map.specs.Needed.{DoublesNothing}

@@ -36,7 +36,8 @@ use Rattle.ck_words.proofs.Seating.{numbers-contents}
 use Rattle.cuckoo_map.specs.declared.locking.Spot.{Spot}
 use Rattle.cuckoo_map.specs.declared.room.Room.{Room}
 use Rattle.cuckoo_map.specs.Holding.{HasSpot}
-use Rattle.cuckoo_map.specs.Refusals.{SaysOf, reason_of, why_of, GivesGrounds, ShowsWhy, IsRefused}
+use Rattle.cuckoo_map.specs.Refusals.{SaysOf, reason_of, GivesGrounds, ShowsWhy, IsRefused}
+use Rattle.ck_refusal.specs.Faults.{why_of}
 use Rattle.cuckoo_map.specs.Needed.{NeedsToGrow, HasGrownFor, HaveOnePower, HoldsGrown}
 use Rattle.cuckoo_map.specs.Insertions.{HoldsRoom, HasRoom, HasRoomInAll}
 use Rattle.cuckoo_map.proofs.Counted.{one_of_lawful, told_first, stays_counting, holds_alike, grown_since}

@@ -52,7 +52,8 @@ use Rattle.ck_model.proofs.Counting.{length-counting, counting-at}
 use Rattle.ck_words.proofs.Reversed.{in_of_reverse, bindings-reverse, lawful_reverse, held_reverse}
 use Rattle.ck_words.proofs.Seating.{length-numbers, number_at}
 use Rattle.ck_words.proofs.WholeTables.{lawful_held}
-use Rattle.cuckoo_map.specs.Refusals.{IsStripeIn, why_of}
+use Rattle.cuckoo_map.specs.Refusals.{IsStripeIn}
+use Rattle.ck_refusal.specs.Faults.{why_of}
 use Rattle.cuckoo_map.specs.Locking.{LockedState, locked_of, map_of, locked_power, IsSameSession, IsLocked, HasLocked, HasActed, HasChanged, HasDoubledFor, Clears, Lists, KeepsMap, LacksRoom, SeeksRoom, Retains}
 use Rattle.cuckoo_map.proofs.Sizes.{renewed_same, has_all, few_of_each}
 use Rattle.cuckoo_map.proofs.Counted.{one_of_lawful}

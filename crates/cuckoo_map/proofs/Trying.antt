@@ -15,8 +15,8 @@ use Rattle.ck_words.specs.Retries.{StaysBut, as_doubled}
 use Rattle.ck_words.specs.Closing.{IsCaller}
 use Rattle.ck_words.proofs.Staying.{last_since, held_since, stays_then}
 use Rattle.cuckoo_map.specs.declared.room.Room.{Room}
-use Rattle.cuckoo_map.specs.declared.refusal.Why.{Why}
-use Rattle.cuckoo_map.specs.declared.refusal.Why.TheVariants.{Busy, Memory, Full, LoadTooLow}
+use Rattle.ck_refusal.specs.declared.refusal.Why.{Why}
+use Rattle.ck_refusal.specs.declared.refusal.Why.TheVariants.{Busy, Memory, Full, LoadTooLow}
 use Rattle.cuckoo_map.specs.Refusals.{reason_of, SaysOf, FindsOwnUnlessFull, SaysNoRoom, GivesGrounds, ShowsWhy, IsRefused}
 use Rattle.ck_core.specs.declared.view.View.{View}
 use Rattle.cuckoo_map.specs.Needed.{HasGrownFor}

@@ -15,12 +15,12 @@ use Rattle.ck_words.specs.Words.{WordsState}
 use Rattle.ck_words.specs.Passes.{PassState}
 use Rattle.ck_words.specs.Retries.{WatchesMore, DecidesThenGives, Stays, as_doubled, FindsAmong}
 use Rattle.ck_words.specs.Meeting.{MessageState, Hears}
-use Rattle.cuckoo_map.specs.declared.refusal.Busy.{Busy}
-use Rattle.cuckoo_map.specs.declared.refusal.DrainFault.{DrainFault}
-use Rattle.cuckoo_map.specs.declared.refusal.DrainFault.TheVariants as drain
-use Rattle.cuckoo_map.specs.declared.refusal.GrowFault.{GrowFault}
-use Rattle.cuckoo_map.specs.declared.refusal.KeysRefused.{KeysRefused}
-use Rattle.cuckoo_map.specs.declared.refusal.Refused.{Refused}
+use Rattle.ck_refusal.specs.declared.refusal.Busy.{Busy}
+use Rattle.ck_refusal.specs.declared.refusal.DrainFault.{DrainFault}
+use Rattle.ck_refusal.specs.declared.refusal.DrainFault.TheVariants as drain
+use Rattle.ck_refusal.specs.declared.refusal.GrowFault.{GrowFault}
+use Rattle.ck_refusal.specs.declared.refusal.KeysRefused.{KeysRefused}
+use Rattle.ck_refusal.specs.declared.refusal.Refused.{Refused}
 use Rattle.cuckoo_map.specs.Refusals.{IsStripeIn, FindsOwn, FindsOwnUnlessFull, IsBusyAmong, IsBusyAt}
 use Rattle.cuckoo_map.specs.SeveralKeys.{IsStripeOfAny, RefusesNames}
 use Rattle.cuckoo_map.specs.Notes.{Notes, notes_of, idle_pass}

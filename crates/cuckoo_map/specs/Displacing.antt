@@ -7,7 +7,7 @@ use Rattle.ck_core.specs.State.{found_held}
 use Rattle.ck_words.specs.Words.{WordsState}
 use Rattle.ck_words.specs.Passes.{PassState, IsPassOf, IsIdle}
 use Rattle.ck_words.specs.Retries.{StaysBut}
-use Rattle.cuckoo_map.specs.declared.refusal.Busy.{Busy}
+use Rattle.ck_refusal.specs.declared.refusal.Busy.{Busy}
 use Rattle.cuckoo_map.specs.Refusals.{FindsOwn, IsBusyAmong}
 use Rattle.cuckoo_map.specs.Insertions.{HasFoundNoRoom}
 

@@ -2,8 +2,8 @@
 use Rattle.std.specs.Prelude.{◌≡◌, ◌↔◌, ℕ, ◌+◌, ◌-◌, ◌*◌, ◌^◌, ◌<◌, ◌≤◌, Bool, true, false, Result, Ok, Err, OnOk}
 use Rattle.ck_model.specs.declared.settings.Settings.{Settings}
 use Rattle.ck_words.specs.Passes.{PassState}
-use Rattle.cuckoo_map.specs.declared.refusal.GrowFault.{GrowFault}
-use Rattle.cuckoo_map.specs.declared.refusal.GrowFault.TheVariants.{Busy, Memory, OverMax}
+use Rattle.ck_refusal.specs.declared.refusal.GrowFault.{GrowFault}
+use Rattle.ck_refusal.specs.declared.refusal.GrowFault.TheVariants.{Busy, Memory, OverMax}
 use Rattle.cuckoo_map.specs.Refusals.{IsStripeIn, IsBusyAmong}
 
 -- The least power of at least 1 with which a table has n slots or more.

@@ -22,7 +22,7 @@ use Rattle.ck_words.specs.StripeSets.{list_of}
 use Rattle.ck_words.specs.Retries.{Stays, StaysBut, as_doubled}
 use Rattle.ck_words.specs.Answering.{IsAnsweredBut}
 use Rattle.ck_words.specs.Renewing.{HasRenewed}
-use Rattle.cuckoo_map.specs.declared.refusal.Refused.{Refused}
+use Rattle.ck_refusal.specs.declared.refusal.Refused.{Refused}
 use Rattle.cuckoo_map.specs.Needed.{HasGrownFor, HoldsGrown}
 use Rattle.cuckoo_map.specs.Refusals.{SaysOf, FindsOwnUnlessFull, IsRefused}
 

@@ -5,7 +5,6 @@ pub mod SeveralKeys
 pub mod Queries
 pub mod Insertions
 pub mod Displacing
-pub mod Faults
 pub mod Growth
 pub mod Callers
 pub mod Locking
@@ -25,3 +24,4 @@ pub use Rattle.ck_words.specs.Meeting
 pub use Rattle.ck_words.specs.Closing
 pub use Rattle.ck_key.specs.Hashes
 pub use Rattle.ck_key.specs.KeyLaws
+pub use Rattle.ck_refusal.specs.Faults

@@ -18,7 +18,7 @@ use Rattle.ck_words.specs.StripeSets.{list_of}
 use Rattle.ck_words.specs.Words.{WordsState}
 use Rattle.ck_words.specs.Passes.{PassState, IsPassOf, numbers_of}
 use Rattle.ck_model.specs.Paths.{HasNoRoom}
-use Rattle.cuckoo_map.specs.declared.refusal.NoSlot.{NoSlot}
+use Rattle.ck_refusal.specs.declared.refusal.NoSlot.{NoSlot}
 use Rattle.cuckoo_map.specs.Callers.{CallerState, IsSameCaller, StaysAsIs, FindsHeldAmong}
 use Rattle.cuckoo_map.specs.Locking.{LockedState, locked_of, start_of, map_of, HasActed}
 

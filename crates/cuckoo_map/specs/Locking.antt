@@ -23,11 +23,12 @@ use Rattle.ck_core.specs.Steps.{growing}
 use Rattle.ck_words.specs.Words.{WordsState}
 use Rattle.ck_words.specs.Passes.{PassState, IsPassOf, ShowsSeen}
 use Rattle.ck_words.specs.Retries.{Stays, FindsAmong}
-use Rattle.cuckoo_map.specs.declared.refusal.GrowFault.{GrowFault}
-use Rattle.cuckoo_map.specs.declared.refusal.GrowFault.TheVariants.{Busy, Memory, OverMax}
-use Rattle.cuckoo_map.specs.declared.refusal.Why.{Why}
-use Rattle.cuckoo_map.specs.declared.refusal.Refused.{Refused}
-use Rattle.cuckoo_map.specs.Refusals.{IsStripeIn, why_of}
+use Rattle.ck_refusal.specs.declared.refusal.GrowFault.{GrowFault}
+use Rattle.ck_refusal.specs.declared.refusal.GrowFault.TheVariants.{Busy, Memory, OverMax}
+use Rattle.ck_refusal.specs.declared.refusal.Why.{Why}
+use Rattle.ck_refusal.specs.declared.refusal.Refused.{Refused}
+use Rattle.cuckoo_map.specs.Refusals.{IsStripeIn}
+use Rattle.ck_refusal.specs.Faults.{why_of}
 use Rattle.cuckoo_map.specs.Growth.{IsLeastPower}
 use Rattle.cuckoo_map.specs.Needed.{DoublesFor}
 use Rattle.cuckoo_map.specs.Callers.{CallerState, caller_of, pass_of, KeepsNotesBut}

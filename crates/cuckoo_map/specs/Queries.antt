@@ -6,7 +6,7 @@ use Rattle.ck_model.specs.declared.settings.Settings.{Settings}
 use Rattle.ck_model.specs.Promise.{Name}
 use Rattle.ck_words.specs.Passes.{PassState}
 use Rattle.ck_words.specs.Answering.{IsAnsweredOn}
-use Rattle.cuckoo_map.specs.declared.refusal.Busy.{Busy}
+use Rattle.ck_refusal.specs.declared.refusal.Busy.{Busy}
 use Rattle.cuckoo_map.specs.Refusals.{FindsOwn, IsBusyAt}
 
 -- Since p the call came to an answer, which says so of an act on the name that was done, or was refused as busy. It found no stripe held but those of the name.

@@ -6,10 +6,8 @@ use Rattle.ck_model.specs.declared.settings.Settings.{Settings}
 use Rattle.ck_model.specs.Promise.{Name, After}
 use Rattle.ck_model.specs.Contents.{layout_of, Stripes, IsStripeOf, bindings, power_of}
 use Rattle.ck_model.specs.Paths.{Grounds}
-use Rattle.ck_model.specs.declared.lack.Lack.{Lack}
-use Rattle.ck_model.specs.declared.lack.Lack.TheVariants as lack
-use Rattle.cuckoo_map.specs.declared.refusal.Why.{Why}
-use Rattle.cuckoo_map.specs.declared.refusal.Why.TheVariants.{Busy, Memory, Full, LoadTooLow}
+use Rattle.ck_refusal.specs.declared.refusal.Why.{Why}
+use Rattle.ck_refusal.specs.declared.refusal.Why.TheVariants.{Busy, Memory, Full, LoadTooLow}
 use Rattle.ck_core.specs.declared.view.RoomNote.{RoomNote}
 use Rattle.ck_core.specs.Steps.{noted}
 use Rattle.ck_words.specs.Passes.{PassState}
@@ -20,12 +18,6 @@ use Rattle.cuckoo_map.specs.Needed.{HasGrownFor}
 -- a stripe of the table
 abbrev pub IsStripeIn : Settings → ℕ → Type 0
 IsStripeIn set t = t < 2 ^ set.s
-
--- why a key is refused where the table lacks this to make room for it
-abbrev pub why_of : Lack → Why
-why_of lack.Memory = Memory
-why_of lack.Full = Full
-why_of lack.LoadTooLow = LoadTooLow
 
 -- Why the name was without room, as the history has it. A busy insertion has no other reason than that its buckets were full.
 abbrev pub reason_of : Why → history.Reason

@@ -14,11 +14,11 @@ use Rattle.ck_core.specs.Steps.{noted}
 use Rattle.ck_words.specs.Passes.{PassState}
 use Rattle.ck_words.specs.Retries.{FindsAmong}
 use Rattle.ck_words.specs.Answering.{IsAnswered}
-use Rattle.cuckoo_map.specs.declared.refusal.KeysRefused.{KeysRefused}
-use Rattle.cuckoo_map.specs.declared.refusal.NotRenamed.{NotRenamed}
-use Rattle.cuckoo_map.specs.declared.refusal.RoomFault.{RoomFault}
-use Rattle.cuckoo_map.specs.declared.refusal.RoomFault.TheVariants.{Keys, Room}
-use Rattle.cuckoo_map.specs.declared.refusal.Why.{Why}
+use Rattle.ck_refusal.specs.declared.refusal.KeysRefused.{KeysRefused}
+use Rattle.ck_refusal.specs.declared.refusal.NotRenamed.{NotRenamed}
+use Rattle.ck_refusal.specs.declared.refusal.RoomFault.{RoomFault}
+use Rattle.ck_refusal.specs.declared.refusal.RoomFault.TheVariants.{Keys, Room}
+use Rattle.ck_refusal.specs.declared.refusal.Why.{Why}
 use Rattle.cuckoo_map.specs.Refusals.{IsStripeIn, IsRefused, SaysNoRoom}
 use Rattle.cuckoo_map.specs.Insertions.{FindsFull, IsAnsweredWithRoom, HasSoughtRoom}
 use Rattle.cuckoo_map.specs.Needed.{DoublesNothing}

@@ -13,10 +13,10 @@ use Rattle.ck_words.specs.declared.stripe_set.StripeSet.{StripeSet}
 use Rattle.ck_words.specs.Passes.{PassState}
 use Rattle.ck_words.specs.Retries.{Stays, as_doubled, FindsAmong}
 use Rattle.ck_words.specs.Closing.{IsWhole}
-use Rattle.cuckoo_map.specs.declared.refusal.RoomFault.{RoomFault}
-use Rattle.cuckoo_map.specs.declared.refusal.RoomFault.TheVariants.{Keys, Room}
-use Rattle.cuckoo_map.specs.declared.refusal.Why.{Why}
-use Rattle.cuckoo_map.specs.declared.refusal.Why.TheVariants.{Busy, Memory, Full, LoadTooLow}
+use Rattle.ck_refusal.specs.declared.refusal.RoomFault.{RoomFault}
+use Rattle.ck_refusal.specs.declared.refusal.RoomFault.TheVariants.{Keys, Room}
+use Rattle.ck_refusal.specs.declared.refusal.Why.{Why}
+use Rattle.ck_refusal.specs.declared.refusal.Why.TheVariants.{Busy, Memory, Full, LoadTooLow}
 use Rattle.cuckoo_map.specs.Refusals.{IsStripeIn, IsBusyAmong, IsRefused}
 use Rattle.cuckoo_map.specs.Insertions.{HasSoughtRoom}
 use Rattle.cuckoo_map.specs.SeveralKeys.{IsStripeOfAny, HoldsNames, RefusesNames}

@@ -6,13 +6,14 @@ ghost use Rattle.ck_words.specs.Closing.{IsCaller};
 
 use crate::locked::LockedOn;
 use crate::locked_keys::LockedKeysOn;
-use crate::refusal::{
-    Busy, DrainFault, GrowFault, KeysNotLocked, KeysRefused, KeysWithoutRoom, NoCallers,
-    NotDrained, NotLocked, NotRenamed, Refused, Why,
-};
+use crate::no_callers::NoCallers;
 use crate::table::Table;
 use crate::table_ref::TableRef;
 use ck_key::{Query, TableKey};
+use ck_refusal::{
+    Busy, DrainFault, GrowFault, KeysNotLocked, KeysRefused, KeysWithoutRoom, NotDrained,
+    NotLocked, NotRenamed, Refused, Why,
+};
 use ck_section::{Renamed, Uprased};
 use ck_words::{Message, Pass};
 use std::alloc::Global;

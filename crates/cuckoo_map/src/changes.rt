@@ -11,10 +11,10 @@ ghost use Rattle.ck_model.specs.Commits.{call_of};
 ghost use Rattle.cuckoo_map.specs.Refusals.{FindsOwn, IsBusyAt};
 ghost use Rattle.cuckoo_map.specs.Queries.{HasQueried};
 
-use crate::refusal::Busy;
 use crate::table::Table;
 use ck_key::{Query, TableKey};
 use ck_model::commit::Commit;
+use ck_refusal::Busy;
 use ck_section::{erase, erase_fn, modify, replace_if, update, update_fn, value_and_outcome};
 use ck_words::{Pass, guard};
 use std::snapshot::Snapshot;

@@ -9,10 +9,10 @@ ghost use Rattle.ck_words.specs.Closing.{IsCaller, dealt};
 
 use crate::caller::CallerOn;
 use crate::locked::LockedOn;
-use crate::refusal::OpenFault;
 use crate::table::Table;
 use ck_key::TableKey;
 use ck_model::settings::Settings;
+use ck_refusal::OpenFault;
 use ck_words::Pass;
 use std::alloc::{AllocError, Global};
 use std::sync::Arc;

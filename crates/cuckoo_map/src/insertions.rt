@@ -11,10 +11,10 @@ ghost use Rattle.cuckoo_map.specs.Insertions.{HasFoundNoRoom, HasRoom, HasInsert
 ghost use Rattle.cuckoo_map.specs.Refusals.{FindsOwn, FindsOwnUnlessFull};
 
 use crate::locking::KeyStripes;
-use crate::refusal::{Refused, Why};
 use crate::room::Room;
 use crate::table::Table;
 use ck_key::TableKey;
+use ck_refusal::{Refused, Why};
 use ck_section::{Insertion, Uprased, insertion};
 use ck_words::{Pass, guard};
 use std::marker::PhantomData;

@@ -35,10 +35,8 @@
 
 // The table, and who calls it.
 mod caller;
-mod fault;
 mod handle;
-mod pool;
-mod refusal;
+mod no_callers;
 mod table;
 mod table_ref;
 
@@ -64,16 +62,16 @@ mod locked_keys;
 pub use caller::{Caller, CallerOn};
 pub use ck_key::{KeyFault, MixedKey, NumKey, NumTextKey, PairKey, Query, TableKey, TextKey};
 pub use ck_model::settings::{OutOfRange, Settings};
+pub use ck_pool::{AllLent, NoList, NoPool, Pool};
+pub use ck_refusal::{
+    Busy, DrainFault, Fault, GrowFault, KeysNotLocked, KeysRefused, KeysWithoutRoom, NoSlot,
+    NotDrained, NotLocked, NotRenamed, OpenFault, Refused, RoomFault, Why,
+};
 pub use ck_section::{Iter, Renamed, Uprased};
 pub use ck_words::{Message, Pass};
-pub use fault::Fault;
 pub use handle::{Handle, LockedHandle};
 pub use locked::{LockedOn, LockedTable};
 pub use locked_keys::{LockedKeys, LockedKeysOn};
-pub use pool::{AllLent, NoList, NoPool, Pool};
-pub use refusal::{
-    Busy, DrainFault, GrowFault, KeysNotLocked, KeysRefused, KeysWithoutRoom, NoCallers, NoSlot,
-    NotDrained, NotLocked, NotRenamed, OpenFault, Refused, RoomFault, Why,
-};
+pub use no_callers::NoCallers;
 pub use table::Table;
 pub use table_ref::TableRef;

@@ -17,11 +17,11 @@ ghost use Rattle.cuckoo_map.specs.Callers.{caller_of, IsSameCaller};
 ghost use Rattle.cuckoo_map.specs.Locking.{map_of, locked_of, session_call, IsLocked, EndsSession, EndsNotes, HasLocked, Lists};
 
 use crate::caller::CallerOn;
-use crate::refusal::Busy;
 use crate::table::Table;
 use crate::table_ref::TableRef;
 use ck_key::{Query, TableKey};
 use ck_model::settings::Settings;
+use ck_refusal::Busy;
 use ck_section::{Iter, KeyPlace, export, find_in_all, key_place_in_all};
 use ck_stripe::Stripe;
 use ck_words::{Pass, Whole, guard};

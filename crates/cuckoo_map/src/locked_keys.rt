@@ -12,10 +12,10 @@ ghost use Rattle.cuckoo_map.specs.LockedKeys.{ActsOn, value_of, keys_call, Lacks
 
 use crate::caller::CallerOn;
 use crate::locked::make_in;
-use crate::refusal::NoSlot;
 use crate::table::Table;
 use crate::table_ref::TableRef;
 use ck_key::{KeyHash, Query, TableKey};
+use ck_refusal::NoSlot;
 use ck_section::{
     Insertion, erase, find, has_room_for_all, insertion, key_place, modify, update, update_fn,
 };

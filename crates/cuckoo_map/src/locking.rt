@@ -9,9 +9,9 @@ ghost use Rattle.ck_words.specs.Retries.{FindsAmong, Stays};
 ghost use Rattle.cuckoo_map.specs.Holding.{HasSpot, AreStripesOf};
 ghost use Rattle.cuckoo_map.specs.Refusals.{FindsOwn, IsBusyAt, IsBusyAmong, IsStripeIn};
 
-use crate::refusal::Busy;
 use crate::table::Table;
 use ck_key::{KeyHash, Query, TableKey};
+use ck_refusal::Busy;
 use ck_section::{KeyPlace, key_place};
 use ck_words::{Pass, StripeSet, guard};
 use std::snapshot::Snapshot;

@@ -10,10 +10,10 @@ ghost use Rattle.cuckoo_map.specs.Queries.{HasQueried};
 ghost use Rattle.cuckoo_map.specs.Refusals.{FindsOwn};
 
 use crate::locking::Spot;
-use crate::refusal::Busy;
 use crate::table::Table;
 use ck_key::{Query, TableKey};
 use ck_model::commit::Commit;
+use ck_refusal::Busy;
 use ck_section::find;
 use ck_words::{Pass, guard};
 use std::snapshot::Snapshot;

@@ -14,9 +14,9 @@ ghost use Rattle.cuckoo_map.specs.SeveralKeys.{IsStripeOfAny, IsSameButStripes, 
 ghost use Rattle.cuckoo_map.specs.LockedKeys.{HoldsKeys};
 ghost use Rattle.cuckoo_map.specs.Renames.{Renames, LacksSlot, HasRenamedOnce, HasRenamedInAll, HasRenamed};
 
-use crate::refusal::{NotRenamed, RoomFault};
 use crate::table::Table;
 use ck_key::{KeyHash, TableKey};
+use ck_refusal::{NotRenamed, RoomFault};
 use ck_section::{Renamed, key_place, rename};
 use ck_stripe::{Held, Stripe};
 use ck_words::{Pass, StripeSet, guard};

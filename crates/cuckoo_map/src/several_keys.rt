@@ -13,9 +13,9 @@ ghost use Rattle.cuckoo_map.specs.Refusals.{IsBusyAmong};
 ghost use Rattle.cuckoo_map.specs.SeveralKeys.{IsStripeOfAny, HoldsNames, RefusesNames, StandsAgain, HasQueriedAll, FindsAll, ChangesAll, ModifiesAll, SetsIf, IsSameButStripes, IsUpdated, bound_to};
 ghost use Rattle.cuckoo_map.specs.LockedKeys.{HoldsKeys};
 
-use crate::refusal::{Busy, KeysRefused};
 use crate::table::Table;
 use ck_key::{KeyHash, Query, TableKey};
+use ck_refusal::{Busy, KeysRefused};
 use ck_section::{find_bound, find_each, key_place, update};
 use ck_words::{Pass, StripeSet, guard};
 

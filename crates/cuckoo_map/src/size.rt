@@ -7,10 +7,10 @@ ghost use Rattle.ck_words.specs.Answering.{IsAnswered};
 ghost use Rattle.ck_words.specs.Closing.{IsCaller};
 ghost use Rattle.cuckoo_map.specs.Refusals.{IsStripeIn, IsBusyAmong};
 
-use crate::refusal::Busy;
 use crate::table::Table;
 use ck_key::TableKey;
 use ck_model::commit::Commit;
+use ck_refusal::Busy;
 use ck_stripe::len;
 use ck_words::{Pass, guard};
 

@@ -8,10 +8,10 @@ ghost use Rattle.ck_words.specs.Meeting.{message_from, Hears, Meets};
 ghost use Rattle.ck_model.specs.Counting.{counting};
 ghost use Rattle.ck_words.specs.Closing.{IsCaller, AreAllPasses, EachStays, Closes, dealt};
 
-use crate::refusal::OpenFault;
 use crate::room::Growth;
 use ck_key::TableKey;
 use ck_model::settings::Settings;
+use ck_refusal::OpenFault;
 use ck_words::{Message, Pass, Words};
 use std::alloc::Global;
 use std::marker::Model;

@@ -4,11 +4,11 @@ ghost use Rattle.std.specs.FinMap.{len};
 ghost use Rattle.cuckoo_map.specs.Locking.{locked_power, map_of, RehashesLocked, ReservesLocked};
 
 use crate::locked::{LockedOn, stripes_of};
-use crate::refusal::GrowFault;
 use crate::room::least_power;
 use crate::table_ref::TableRef;
 use ck_key::TableKey;
 use ck_model::settings::Settings;
+use ck_refusal::GrowFault;
 
 impl<T: TableRef<K, V> + Drop, K: TableKey + Drop, V: Drop> LockedOn<T, K, V> {
     /// The power: the table has 2^power buckets of four slots.

@@ -7,15 +7,15 @@ ghost use Rattle.ck_section.specs.Acts.{Inserts, Assigns, Upserts, InsertsBy, Fi
 ghost use Rattle.ck_section.specs.Places.{IsPlaceOf};
 ghost use Rattle.ck_section.specs.Calls.{effect, IsCall, IsWithoutRoom, ChangesContents};
 ghost use Rattle.ck_section.specs.RoomForAll.{KeepsOthers};
-ghost use Rattle.cuckoo_map.specs.Refusals.{why_of};
+ghost use Rattle.ck_refusal.specs.Faults.{why_of};
 ghost use Rattle.cuckoo_map.specs.Locking.{HasDoubledFor, LockedInsertionLeaves, KeepsMap, LacksRoom};
 ghost use Rattle.cuckoo_map.specs.Insertions.{TellsOf};
 
 use crate::locked::LockedOn;
-use crate::refusal::{Refused, Why};
 use crate::table_ref::TableRef;
 use ck_key::TableKey;
 use ck_model::lack::Lack;
+use ck_refusal::{Refused, Why};
 use ck_section::{Insertion, KeyPlace, Uprased, find_entry, insertion};
 use ck_stripe::{Held, Stripe};
 use std::marker::PhantomData;

@@ -5,10 +5,10 @@ ghost use Rattle.ck_words.specs.Closing.{IsCaller};
 ghost use Rattle.cuckoo_map.specs.Insertions.{HasFoundNoRoom, HasRoom, HasSoughtRoom};
 ghost use Rattle.cuckoo_map.specs.Refusals.{FindsOwn, FindsOwnUnlessFull, IsRefused};
 
-use crate::refusal::Why;
 use crate::room::Room;
 use crate::table::Table;
 use ck_key::TableKey;
+use ck_refusal::Why;
 use ck_words::{Pass, guard};
 use std::snapshot::Snapshot;
 

@@ -16,12 +16,12 @@ ghost use Rattle.cuckoo_map.specs.Needed.{HoldsGrown};
 ghost use Rattle.cuckoo_map.specs.Locking.{SeeksRoom};
 
 use crate::locking::Spot;
-use crate::refusal::Why;
 use crate::room::{Preparation, Room};
 use crate::table::Table;
 use ck_key::{KeyHash, TableKey};
 use ck_model::lack::Lack;
 use ck_model::settings::Settings;
+use ck_refusal::Why;
 use ck_section::{find_entry, make_room, settled_place};
 use ck_stripe::{Held, Stripe, settle_all};
 use ck_words::{Pass, guard};

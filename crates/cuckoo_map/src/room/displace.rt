@@ -8,12 +8,12 @@ ghost use Rattle.cuckoo_map.specs.Insertions.{HasRoom};
 ghost use Rattle.cuckoo_map.specs.Refusals.{FindsOwnUnlessFull, IsRefused};
 ghost use Rattle.cuckoo_map.specs.Displacing.{EndsBack, SinceFull};
 
-use crate::refusal::{Busy, Why};
 use crate::room::search::Searched;
 use crate::room::{Preparation, Room};
 use crate::table::Table;
 use ck_key::{KeyHash, TableKey};
 use ck_path::Path;
+use ck_refusal::{Busy, Why};
 use ck_section::{Hop, make_hop};
 use ck_words::{Pass, StripeSet, guard};
 use std::snapshot::Snapshot;

@@ -7,10 +7,10 @@ ghost use Rattle.ck_words.specs.Closing.{IsCaller};
 ghost use Rattle.cuckoo_map.specs.Refusals.{IsStripeIn};
 ghost use Rattle.cuckoo_map.specs.Growth.{IsLeastPower, Rehashes, Reserves};
 
-use crate::refusal::GrowFault;
 use crate::table::Table;
 use ck_key::TableKey;
 use ck_model::settings::Settings;
+use ck_refusal::GrowFault;
 use ck_section::double_all;
 use ck_stripe::{Grower, Held, Stripe, one_stripe, settle_all};
 use ck_words::{Pass, Whole, guard};

@@ -10,10 +10,10 @@ ghost use Rattle.cuckoo_map.specs.Refusals.{IsStripeIn};
 ghost use Rattle.cuckoo_map.specs.Displacing.{FindsAny};
 ghost use Rattle.cuckoo_map.specs.RoomForKeys.{SeeksRoomForEach, LacksRoomForOne, LacksRoomForAll, MakesRoomForEach, LacksRoomStill, GrowsForAll, IsStripeTried, SeeksRoom, IsNotGrown, RefusesRoomForEach, RefusesRoom, names_of};
 
-use crate::refusal::{KeysRefused, RoomFault, Why};
 use crate::table::Table;
 use ck_key::TableKey;
 use ck_model::settings::Settings;
+use ck_refusal::{KeysRefused, RoomFault, Why};
 use ck_section::{grow, has_room_for_all};
 use ck_stripe::settle_all;
 use ck_words::{Pass, StripeSet, guard};

@@ -7,10 +7,10 @@
 //! and only module `room` is given growers.
 ghost use Rattle.std.specs.Prelude.{◌≤◌};
 
-use crate::refusal::Why;
 use crate::table::Table;
 use ck_key::TableKey;
 use ck_model::settings::Settings;
+use ck_refusal::Why;
 use ck_stripe::Grower;
 use std::alloc::Global;
 use std::sync::atomic::{AtomicBool, AtomicU32, Ordering};

@@ -4,10 +4,10 @@ ghost use Rattle.std.specs.Prelude.{◌^◌, ◌<◌, ◌≤◌, IfErr};
 ghost use Rattle.ck_words.specs.Passes.{IsPassOf, IsIdle};
 ghost use Rattle.cuckoo_map.specs.Displacing.{EndsBack};
 
-use crate::refusal::Busy;
 use crate::table::Table;
 use ck_key::{KeyHash, TableKey, alternate, index};
 use ck_path::{Path, Search};
+use ck_refusal::Busy;
 use ck_section::sketch;
 use ck_stripe::{Held, one_stripe};
 use ck_words::{Pass, StripeSet, guard};

@@ -1,6 +1,6 @@
 use Rattle.std.proofs.Common.{rules, ℕ, Bool, Option, Result, inl, map}
 use Rattle.ck_key.specs.Hashes.{mixed_hash}
-use Rattle.cuckoo_map.specs.declared.refusal.KeysRefused.{KeysRefused}
+use Rattle.ck_refusal.specs.declared.refusal.KeysRefused.{KeysRefused}
 use Rattle.cuckoo_map.specs.Callers.{CallerState, KeysLeave}
 use Rattle.cuckoo_map.specs.SeveralKeys.{ModifiesAll}
 use Rattle.ck_foreign.specs.Codes.{TellsChange}

@@ -3,7 +3,7 @@ use Rattle.std.specs.Prelude.{Result}
 use Rattle.ck_key.specs.Hashes.{text_hash}
 use Rattle.ck_model.specs.Promise.{Name}
 use Rattle.ck_section.specs.Acts.{Upserts}
-use Rattle.cuckoo_map.specs.declared.refusal.Refused.{Refused}
+use Rattle.ck_refusal.specs.declared.refusal.Refused.{Refused}
 use Rattle.cuckoo_map.specs.Callers.{InsertionLeaves}
 use Rattle.ck_foreign.specs.declared.keys.BytesKey.{BytesKey}
 use Rattle.ck_foreign.specs.Codes.{TellsFresh}

@@ -14,7 +14,7 @@ use Rattle.ck_section.proofs.Kept.{has_both}
 use Rattle.ck_section.proofs.Tables.{held_of}
 use Rattle.ck_words.specs.StripeSets.{list_of}
 use Rattle.ck_words.specs.Words.{WordsState}
-use Rattle.cuckoo_map.specs.declared.refusal.Why.{Why}
+use Rattle.ck_refusal.specs.declared.refusal.Why.{Why}
 use Rattle.cuckoo_map.specs.RoomForKeys.{IsNotGrown}
 use Rattle.cuckoo_map.proofs.Calls.{s_of}
 use Rattle.cuckoo_map.proofs.GrowingForKeys.{HoldsAll, taken_all, holds_alike_all, holds_names, too_little, renewed_either, caller_home, grows_for_all, not_grown}

@@ -1,7 +1,7 @@
 use Rattle.std.proofs.Common.{rules, ◌≡◌, ◌∙◌, [], append-nil, refl, sym, subst}
 use Rattle.ck_model.specs.Paths.{reason_of_lack}
 use Rattle.ck_words.proofs.Staying.{stays_same}
-use Rattle.cuckoo_map.specs.declared.refusal.Why.{Why}
+use Rattle.ck_refusal.specs.declared.refusal.Why.{Why}
 use Rattle.cuckoo_map.specs.Refusals.{IsRefused}
 use Rattle.cuckoo_map.proofs.Counted.{changes_none, grown_by}
 use Rattle.cuckoo_map.proofs.Grounding.{gives_grounds}

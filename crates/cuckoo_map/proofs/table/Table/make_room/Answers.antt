@@ -1,7 +1,7 @@
 use Rattle.std.proofs.Common.{ℕ, ◌<◌, ◌^◌, [], sym, subst}
 use Rattle.std.proofs.lemmas.Result.{IfOk-weaker, IfErr-weaker, err_from_is_err_and}
 use Rattle.ck_words.specs.Passes.{PassState}
-use Rattle.cuckoo_map.specs.declared.refusal.Why.TheVariants.{Busy}
+use Rattle.ck_refusal.specs.declared.refusal.Why.TheVariants.{Busy}
 use Rattle.cuckoo_map.proofs.Refusing.{refused_among, refused_busy}
 use Rattle.cuckoo_map.proofs.Calls.{by_result}
 use Rattle.cuckoo_map.proofs.Counted.{loosely}

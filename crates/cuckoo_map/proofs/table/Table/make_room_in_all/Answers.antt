@@ -1,5 +1,5 @@
 use Rattle.std.proofs.Common.{rules, ◌≡◌, ◌∙◌, [], append-nil, refl, sym, subst}
-use Rattle.cuckoo_map.specs.declared.refusal.Why.{Why}
+use Rattle.ck_refusal.specs.declared.refusal.Why.{Why}
 use Rattle.std.proofs.lemmas.Result.{err_from_is_err_and}
 use Rattle.ck_model.specs.Paths.{reason_of_lack}
 use Rattle.cuckoo_map.specs.Refusals.{IsStripeIn, IsRefused}

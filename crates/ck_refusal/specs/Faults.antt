@@ -1,20 +1,28 @@
--- The one fault that each refusal is.
-use Rattle.cuckoo_map.specs.declared.fault.Fault.{Fault}
-use Rattle.cuckoo_map.specs.declared.fault.Fault.TheVariants as faults
-use Rattle.cuckoo_map.specs.declared.refusal.OpenFault.{OpenFault}
-use Rattle.cuckoo_map.specs.declared.refusal.OpenFault.TheVariants as opens
-use Rattle.cuckoo_map.specs.declared.refusal.GrowFault.{GrowFault}
-use Rattle.cuckoo_map.specs.declared.refusal.GrowFault.TheVariants as grows
-use Rattle.cuckoo_map.specs.declared.refusal.DrainFault.{DrainFault}
-use Rattle.cuckoo_map.specs.declared.refusal.DrainFault.TheVariants as drains
-use Rattle.cuckoo_map.specs.declared.refusal.KeysRefused.{KeysRefused}
-use Rattle.cuckoo_map.specs.declared.refusal.KeysRefused.TheVariants as several
-use Rattle.cuckoo_map.specs.declared.refusal.RoomFault.{RoomFault}
-use Rattle.cuckoo_map.specs.declared.refusal.RoomFault.TheVariants as rooms
-use Rattle.cuckoo_map.specs.declared.refusal.Why.{Why}
-use Rattle.cuckoo_map.specs.declared.refusal.Why.TheVariants as whys
+-- The one fault that each refusal is, and why an insertion is refused.
+use Rattle.ck_model.specs.declared.lack.Lack.{Lack}
+use Rattle.ck_model.specs.declared.lack.Lack.TheVariants as lacks
+use Rattle.ck_refusal.specs.declared.fault.Fault.{Fault}
+use Rattle.ck_refusal.specs.declared.fault.Fault.TheVariants as faults
+use Rattle.ck_refusal.specs.declared.refusal.OpenFault.{OpenFault}
+use Rattle.ck_refusal.specs.declared.refusal.OpenFault.TheVariants as opens
+use Rattle.ck_refusal.specs.declared.refusal.GrowFault.{GrowFault}
+use Rattle.ck_refusal.specs.declared.refusal.GrowFault.TheVariants as grows
+use Rattle.ck_refusal.specs.declared.refusal.DrainFault.{DrainFault}
+use Rattle.ck_refusal.specs.declared.refusal.DrainFault.TheVariants as drains
+use Rattle.ck_refusal.specs.declared.refusal.KeysRefused.{KeysRefused}
+use Rattle.ck_refusal.specs.declared.refusal.KeysRefused.TheVariants as several
+use Rattle.ck_refusal.specs.declared.refusal.RoomFault.{RoomFault}
+use Rattle.ck_refusal.specs.declared.refusal.RoomFault.TheVariants as rooms
+use Rattle.ck_refusal.specs.declared.refusal.Why.{Why}
+use Rattle.ck_refusal.specs.declared.refusal.Why.TheVariants as whys
 use Rattle.ck_key.specs.declared.text_key.KeyFault.{KeyFault}
 use Rattle.ck_key.specs.declared.text_key.KeyFault.TheVariants as keys
+
+-- why a key is refused where the table lacks this to make room for it
+abbrev pub why_of : Lack → Why
+why_of lacks.Memory = whys.Memory
+why_of lacks.Full = whys.Full
+why_of lacks.LoadTooLow = whys.LoadTooLow
 
 -- of an opening
 abbrev pub fault_of_open : OpenFault → Fault

@@ -1,18 +1,18 @@
 //! One error for all refusals.
 ghost use Rattle.std.specs.Prelude.{◌≡◌};
 
-use crate::pool::{AllLent, NoList, NoPool};
 use crate::refusal::{
-    Busy, DrainFault, GrowFault, KeysNotLocked, KeysRefused, KeysWithoutRoom, NoCallers, NoSlot,
-    NotDrained, NotLocked, NotRenamed, OpenFault, Refused, RoomFault, Why,
+    Busy, DrainFault, GrowFault, KeysNotLocked, KeysRefused, KeysWithoutRoom, NoSlot, NotDrained,
+    NotLocked, NotRenamed, OpenFault, Refused, RoomFault, Why,
 };
-use ck_key::{KeyFault, TableKey};
+use ck_key::KeyFault;
 use ck_model::settings::OutOfRange;
+use ck_pool::{AllLent, NoList, NoPool};
 use std::alloc::AllocError;
 use thiserror::Error;
 
-/// Why a call was refused, whichever call it was. Each refusal of this crate becomes one, and so
-/// does a want of memory, so `?` serves in a function that answers it. What a refusal gives back is
+/// Why a call was refused, whichever call it was. Each refusal becomes one, and so does a want of
+/// memory, so `?` serves in a function that answers it. What a refusal gives back is
 /// dropped then.
 ///
 /// ```
@@ -58,7 +58,7 @@ pub enum Fault {
 
 impl From<OpenFault> for Fault {
     ghost use Rattle.std.specs.Prelude.{◌≡◌};
-    ghost use Rattle.cuckoo_map.specs.Faults.{fault_of_open};
+    ghost use Rattle.ck_refusal.specs.Faults.{fault_of_open};
 
     ghost from_gives = { λ refused fault. fault ≡ fault_of_open refused };
 
@@ -72,7 +72,7 @@ impl From<OpenFault> for Fault {
 
 impl From<Busy> for Fault {
     ghost use Rattle.std.specs.Prelude.{◌≡◌};
-    ghost use Rattle.cuckoo_map.specs.declared.fault.Fault.TheVariants as faults;
+    ghost use Rattle.ck_refusal.specs.declared.fault.Fault.TheVariants as faults;
 
     ghost from_gives = { λ busy fault. fault ≡ faults.Busy busy.0 };
 
@@ -84,7 +84,7 @@ impl From<Busy> for Fault {
 /// Of a refused update.
 impl<V: Drop> From<(V, Busy)> for Fault {
     ghost use Rattle.std.specs.Prelude.{◌≡◌};
-    ghost use Rattle.cuckoo_map.specs.declared.fault.Fault.TheVariants as faults;
+    ghost use Rattle.ck_refusal.specs.declared.fault.Fault.TheVariants as faults;
 
     ghost from_gives = { λ back fault. fault ≡ faults.Busy back.1.0 };
 
@@ -95,7 +95,7 @@ impl<V: Drop> From<(V, Busy)> for Fault {
 
 impl<C: Drop> From<NotLocked<C>> for Fault {
     ghost use Rattle.std.specs.Prelude.{◌≡◌};
-    ghost use Rattle.cuckoo_map.specs.declared.fault.Fault.TheVariants as faults;
+    ghost use Rattle.ck_refusal.specs.declared.fault.Fault.TheVariants as faults;
 
     ghost from_gives = { λ back fault. fault ≡ faults.Busy back.busy.0 };
 
@@ -106,7 +106,7 @@ impl<C: Drop> From<NotLocked<C>> for Fault {
 
 impl From<KeysRefused> for Fault {
     ghost use Rattle.std.specs.Prelude.{◌≡◌};
-    ghost use Rattle.cuckoo_map.specs.Faults.{fault_of_keys};
+    ghost use Rattle.ck_refusal.specs.Faults.{fault_of_keys};
 
     ghost from_gives = { λ refused fault. fault ≡ fault_of_keys refused };
 
@@ -120,7 +120,7 @@ impl From<KeysRefused> for Fault {
 
 impl<C: Drop> From<KeysNotLocked<C>> for Fault {
     ghost use Rattle.std.specs.Prelude.{◌≡◌};
-    ghost use Rattle.cuckoo_map.specs.Faults.{fault_of_keys};
+    ghost use Rattle.ck_refusal.specs.Faults.{fault_of_keys};
 
     ghost from_gives = { λ back fault. fault ≡ fault_of_keys back.why };
 
@@ -131,7 +131,7 @@ impl<C: Drop> From<KeysNotLocked<C>> for Fault {
 
 impl<K: Drop, V: Drop> From<NoSlot<K, V>> for Fault {
     ghost use Rattle.std.specs.Prelude.{◌≡◌};
-    ghost use Rattle.cuckoo_map.specs.declared.fault.Fault.TheVariants as faults;
+    ghost use Rattle.ck_refusal.specs.declared.fault.Fault.TheVariants as faults;
 
     ghost from_gives = { λ _ fault. fault ≡ faults.NoSlot };
 
@@ -142,7 +142,7 @@ impl<K: Drop, V: Drop> From<NoSlot<K, V>> for Fault {
 
 impl From<Why> for Fault {
     ghost use Rattle.std.specs.Prelude.{◌≡◌};
-    ghost use Rattle.cuckoo_map.specs.Faults.{fault_of_why};
+    ghost use Rattle.ck_refusal.specs.Faults.{fault_of_why};
 
     ghost from_gives = { λ why fault. fault ≡ fault_of_why why };
 
@@ -158,7 +158,7 @@ impl From<Why> for Fault {
 
 impl<K: Drop, V: Drop> From<Refused<K, V>> for Fault {
     ghost use Rattle.std.specs.Prelude.{◌≡◌};
-    ghost use Rattle.cuckoo_map.specs.Faults.{fault_of_why};
+    ghost use Rattle.ck_refusal.specs.Faults.{fault_of_why};
 
     ghost from_gives = { λ back fault. fault ≡ fault_of_why back.why };
 
@@ -169,7 +169,7 @@ impl<K: Drop, V: Drop> From<Refused<K, V>> for Fault {
 
 impl From<RoomFault> for Fault {
     ghost use Rattle.std.specs.Prelude.{◌≡◌};
-    ghost use Rattle.cuckoo_map.specs.Faults.{fault_of_room};
+    ghost use Rattle.ck_refusal.specs.Faults.{fault_of_room};
 
     ghost from_gives = { λ refused fault. fault ≡ fault_of_room refused };
 
@@ -183,7 +183,7 @@ impl From<RoomFault> for Fault {
 
 impl<K: Drop> From<NotRenamed<K>> for Fault {
     ghost use Rattle.std.specs.Prelude.{◌≡◌};
-    ghost use Rattle.cuckoo_map.specs.Faults.{fault_of_room};
+    ghost use Rattle.ck_refusal.specs.Faults.{fault_of_room};
 
     ghost from_gives = { λ back fault. fault ≡ fault_of_room back.why };
 
@@ -194,7 +194,7 @@ impl<K: Drop> From<NotRenamed<K>> for Fault {
 
 impl<C: Drop> From<KeysWithoutRoom<C>> for Fault {
     ghost use Rattle.std.specs.Prelude.{◌≡◌};
-    ghost use Rattle.cuckoo_map.specs.Faults.{fault_of_room};
+    ghost use Rattle.ck_refusal.specs.Faults.{fault_of_room};
 
     ghost from_gives = { λ back fault. fault ≡ fault_of_room back.why };
 
@@ -205,7 +205,7 @@ impl<C: Drop> From<KeysWithoutRoom<C>> for Fault {
 
 impl From<GrowFault> for Fault {
     ghost use Rattle.std.specs.Prelude.{◌≡◌};
-    ghost use Rattle.cuckoo_map.specs.Faults.{fault_of_growth};
+    ghost use Rattle.ck_refusal.specs.Faults.{fault_of_growth};
 
     ghost from_gives = { λ refused fault. fault ≡ fault_of_growth refused };
 
@@ -220,7 +220,7 @@ impl From<GrowFault> for Fault {
 
 impl From<DrainFault> for Fault {
     ghost use Rattle.std.specs.Prelude.{◌≡◌};
-    ghost use Rattle.cuckoo_map.specs.Faults.{fault_of_drain};
+    ghost use Rattle.ck_refusal.specs.Faults.{fault_of_drain};
 
     ghost from_gives = { λ refused fault. fault ≡ fault_of_drain refused };
 
@@ -234,7 +234,7 @@ impl From<DrainFault> for Fault {
 
 impl<C: Drop> From<NotDrained<C>> for Fault {
     ghost use Rattle.std.specs.Prelude.{◌≡◌};
-    ghost use Rattle.cuckoo_map.specs.Faults.{fault_of_drain};
+    ghost use Rattle.ck_refusal.specs.Faults.{fault_of_drain};
 
     ghost from_gives = { λ back fault. fault ≡ fault_of_drain back.why };
 
@@ -243,20 +243,9 @@ impl<C: Drop> From<NotDrained<C>> for Fault {
     }
 }
 
-impl<K: TableKey + Drop, V: Drop> From<NoCallers<K, V>> for Fault {
-    ghost use Rattle.std.specs.Prelude.{◌≡◌};
-    ghost use Rattle.cuckoo_map.specs.declared.fault.Fault.TheVariants as faults;
-
-    ghost from_gives = { λ _ fault. fault ≡ faults.Memory };
-
-    fn from(_back: NoCallers<K, V>) -> Fault {
-        Fault::Memory
-    }
-}
-
 impl From<KeyFault> for Fault {
     ghost use Rattle.std.specs.Prelude.{◌≡◌};
-    ghost use Rattle.cuckoo_map.specs.Faults.{fault_of_key};
+    ghost use Rattle.ck_refusal.specs.Faults.{fault_of_key};
 
     ghost from_gives = { λ refused fault. fault ≡ fault_of_key refused };
 
@@ -270,7 +259,7 @@ impl From<KeyFault> for Fault {
 
 impl From<AllocError> for Fault {
     ghost use Rattle.std.specs.Prelude.{◌≡◌};
-    ghost use Rattle.cuckoo_map.specs.declared.fault.Fault.TheVariants as faults;
+    ghost use Rattle.ck_refusal.specs.declared.fault.Fault.TheVariants as faults;
 
     ghost from_gives = { λ _ fault. fault ≡ faults.Memory };
 
@@ -281,7 +270,7 @@ impl From<AllocError> for Fault {
 
 impl From<AllLent> for Fault {
     ghost use Rattle.std.specs.Prelude.{◌≡◌};
-    ghost use Rattle.cuckoo_map.specs.declared.fault.Fault.TheVariants as faults;
+    ghost use Rattle.ck_refusal.specs.declared.fault.Fault.TheVariants as faults;
 
     ghost from_gives = { λ _ fault. fault ≡ faults.AllLent };
 
@@ -292,7 +281,7 @@ impl From<AllLent> for Fault {
 
 impl<T: Drop> From<NoPool<T>> for Fault {
     ghost use Rattle.std.specs.Prelude.{◌≡◌};
-    ghost use Rattle.cuckoo_map.specs.declared.fault.Fault.TheVariants as faults;
+    ghost use Rattle.ck_refusal.specs.declared.fault.Fault.TheVariants as faults;
 
     ghost from_gives = { λ _ fault. fault ≡ faults.Memory };
 
@@ -303,7 +292,7 @@ impl<T: Drop> From<NoPool<T>> for Fault {
 
 impl<T: Drop> From<NoList<T>> for Fault {
     ghost use Rattle.std.specs.Prelude.{◌≡◌};
-    ghost use Rattle.cuckoo_map.specs.declared.fault.Fault.TheVariants as faults;
+    ghost use Rattle.ck_refusal.specs.declared.fault.Fault.TheVariants as faults;
 
     ghost from_gives = { λ _ fault. fault ≡ faults.Memory };
 

@@ -1,5 +1,5 @@
 use Rattle.std.proofs.Common.{◌≡◌, ◌+◌, ◌≤◌, vec_len, vec_capacity}
-use Rattle.cuckoo_map.proofs.pool.Pool.into_vec.Given as goal
+use Rattle.ck_pool.proofs.pool.Pool.into_vec.Given as goal
 
 abbrev pub invariant-loop-place : goal.invariant-loop-place
 invariant-loop-place g l = record {

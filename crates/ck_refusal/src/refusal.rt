@@ -1,11 +1,9 @@
 //! Why a table refuses.
 ghost use Rattle.std.specs.Prelude.{◌≡◌};
-ghost use Rattle.cuckoo_map.specs.Refusals.{why_of};
+ghost use Rattle.ck_refusal.specs.Faults.{why_of};
 
-use ck_key::TableKey;
 use ck_model::lack::Lack;
 use ck_model::settings::OutOfRange;
-use ck_words::Pass;
 use std::fmt::{self, Debug, Formatter};
 use thiserror::Error;
 
@@ -41,7 +39,7 @@ pub enum KeysRefused {
 
 impl From<Busy> for KeysRefused {
     ghost use Rattle.std.specs.Prelude.{◌≡◌};
-    ghost use Rattle.cuckoo_map.specs.declared.refusal.KeysRefused.TheVariants as refusals;
+    ghost use Rattle.ck_refusal.specs.declared.refusal.KeysRefused.TheVariants as refusals;
 
     ghost from_gives = { λ busy refused. refused ≡ refusals.Busy busy.0 };
 
@@ -67,7 +65,7 @@ pub enum GrowFault {
 
 impl From<Busy> for GrowFault {
     ghost use Rattle.std.specs.Prelude.{◌≡◌};
-    ghost use Rattle.cuckoo_map.specs.declared.refusal.GrowFault.TheVariants as faults;
+    ghost use Rattle.ck_refusal.specs.declared.refusal.GrowFault.TheVariants as faults;
 
     ghost from_gives = { λ busy fault. fault ≡ faults.Busy busy.0 };
 
@@ -109,7 +107,7 @@ pub enum Why {
 
 impl From<Busy> for Why {
     ghost use Rattle.std.specs.Prelude.{◌≡◌};
-    ghost use Rattle.cuckoo_map.specs.declared.refusal.Why.TheVariants as whys;
+    ghost use Rattle.ck_refusal.specs.declared.refusal.Why.TheVariants as whys;
 
     ghost from_gives = { λ busy why. why ≡ whys.Busy busy.0 };
 
@@ -119,8 +117,8 @@ impl From<Busy> for Why {
 }
 
 impl Why {
-    // Why a key is refused where the table lacks this to make room for it.
-    pub(crate) fn of(lack: Lack) -> Why
+    /// Why a key is refused where the table lacks this to make room for it.
+    pub fn of(lack: Lack) -> Why
         ensures { result ≡ why_of lack }
     {
         match lack {
@@ -149,20 +147,6 @@ impl<K, V> Debug for Refused<K, V> {
         f.debug_struct("Refused")
             .field("why", &self.why)
             .finish_non_exhaustive()
-    }
-}
-
-/// There is no memory for a list of callers; their passes come back.
-#[derive(Drop, Error)]
-#[error("no memory for the callers")]
-pub struct NoCallers<K: TableKey, V> {
-    /// The passes of which callers were to be made.
-    pub passes: Vec<Pass<K, V>>,
-}
-
-impl<K: TableKey, V> Debug for NoCallers<K, V> {
-    fn fmt<W: fmt::Write>(&self, f: &mut Formatter<W>) -> fmt::Result {
-        f.debug_struct("NoCallers").finish_non_exhaustive()
     }
 }
 
@@ -280,7 +264,7 @@ pub enum RoomFault {
 
 impl From<KeysRefused> for RoomFault {
     ghost use Rattle.std.specs.Prelude.{◌≡◌};
-    ghost use Rattle.cuckoo_map.specs.declared.refusal.RoomFault.TheVariants.{Keys};
+    ghost use Rattle.ck_refusal.specs.declared.refusal.RoomFault.TheVariants.{Keys};
 
     ghost from_gives = { λ refused fault. fault ≡ Keys refused };
 
