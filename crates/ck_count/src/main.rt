@@ -1,10 +1,9 @@
-//! Counts the words of its input by two threads, and prints the ten most frequent.
+//! Counts the words of its input by two threads, and prints how often some of them stand there.
 #![tactic(auto)]
 
 use anyhow::{Context, Result};
 use cuckoo_map::{Handle, KeyFault, Settings, TextKey};
 use std::alloc::Global;
-use std::cmp::Reverse;
 use std::io;
 use std::thread::{self, Threads};
 
@@ -22,12 +21,8 @@ fn count(alloc: Global, counter: &mut Counter, words: &[&str]) -> Result<()> {
     Ok(())
 }
 
-/// All words with their counts, by two threads.
-fn count_all(
-    rt: &(impl Threads + Sync),
-    alloc: Global,
-    words: &[&str],
-) -> Result<Vec<(TextKey, u64)>> {
+/// Counts all words, by two threads.
+fn count_all(rt: &(impl Threads + Sync), alloc: Global, words: &[&str]) -> Result<Counter> {
     let mut counters = Handle::open(alloc, Settings::for_keys(10_000, 2))?;
     let mut first = counters.pop().context("no handle")?;
     let mut second = counters.pop().context("no handle")?;
@@ -39,14 +34,14 @@ fn count_all(
     );
     one?;
     two?;
-    let (_, counts) = first.drain(alloc)?;
-    Ok(counts)
+    Ok(first)
 }
 
-/// Prints the first ten.
-fn print_ten(rt: &impl Print, alloc: Global, counts: &[(TextKey, u64)]) -> Result<()> {
-    for (word, count) in counts.iter().take(10) {
-        let word = String::from_utf8_lossy(alloc, word.as_bytes())?;
+/// Prints how many different words there are, and how often some of them stand.
+fn report(rt: &impl Print, counter: &mut Counter) -> Result<()> {
+    println!(rt; "{} different words", counter.len()?)?;
+    for word in ["the", "cuckoo", "magpie"] {
+        let count = counter.find(word)?.unwrap_or(0);
         println!(rt; "{count} {word}")?;
     }
     Ok(())
@@ -56,7 +51,6 @@ fn main(rt: HostRuntime) -> Result<()> {
     let alloc = rt.alloc();
     let text = io::read_to_string(alloc, rt.stdin())?;
     let words: Vec<&str> = text.split_ascii_whitespace().collect(alloc)?;
-    let mut counts = count_all(&rt, alloc, &words)?;
-    counts.sort_by_key(|word| Reverse(word.1))?;
-    print_ten(&rt, alloc, &counts)
+    let mut counter = count_all(&rt, alloc, &words)?;
+    report(&rt, &mut counter)
 }

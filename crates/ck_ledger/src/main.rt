@@ -1,44 +1,100 @@
-//! A ledger that one handle keeps, proved to be a plain map, and accounts that threads share: four
-//! threads pay, each payment proved to keep the sum, while an auditor locks the table again and
-//! again and finds all of it each time.
+//! Accounts that two threads share: one pays, each payment proved to keep the sum of all, while the
+//! other locks the table again and again and finds all of it each time.
 #![tactic(auto)]
 
-mod tellers;
+ghost use Rattle.std.specs.Prelude.{◌≡◌, ◌≢◌, ℕ, ◌++◌, List};
+ghost use Rattle.ck_model.specs.declared.history.Entry.{Entry};
+ghost use Rattle.ck_core.specs.Sums.{EachKeepsTotal};
 
 use anyhow::{Context, Result};
-use ck_laws::ledger;
-use cuckoo_map::{Handle, Settings};
+use ck_laws::ledger::moved;
+use cuckoo_map::{Busy, Handle, LockedHandle, NumKey, Settings};
 use std::alloc::Global;
-use std::thread::Threads;
-use tellers::{ACCOUNTS, open_accounts, run_all};
+use std::thread::{self, Threads};
 
-/// Two accounts of a ledger after a transfer, and one after it was begun anew.
-fn keep(alloc: Global) -> Result<[Option<u64>; 3]> {
-    let mut own = ledger::open(alloc)?;
-    ledger::put(&mut own, 1, 70)?;
-    ledger::put(&mut own, 2, 30)?;
-    ledger::transfer(&mut own, 1, 2, 50);
-    let first = ledger::value_of(&mut own, 1);
-    let second = ledger::value_of(&mut own, 2);
-    let (mut own, _) = ledger::reset(own, 5, 7);
-    Ok([first, second, ledger::value_of(&mut own, 2)])
+/// The accounts are numbered from 0.
+const ACCOUNTS: u64 = 10;
+
+/// What each account begins with.
+const FUND: u64 = 100;
+
+/// How many payments are made.
+const PAYMENTS: u64 = 1000;
+
+/// How often the auditor adds up.
+const AUDITS: u64 = 20;
+
+/// Who pays, or audits.
+type Teller = Handle<NumKey, u64>;
+
+/// Opens the accounts.
+fn open_accounts(teller: &mut Teller) -> Result<()> {
+    for account in 0..ACCOUNTS {
+        teller.insert(NumKey(account), FUND)?;
+    }
+    Ok(())
 }
 
-/// What the auditor of shared accounts finds.
-fn share(rt: &(impl Threads + Sync), alloc: Global) -> Result<u64> {
-    let mut handles = Handle::open(alloc, Settings::for_keys(ACCOUNTS, 5))?;
-    let mut auditor = handles.pop().context("no handle")?;
-    open_accounts(&mut auditor)?;
-    run_all(rt, auditor, handles)
+/// Moves an amount between two accounts, if both are open. What that adds to the history keeps the
+/// sum of all accounts, whatever other handles do.
+fn pay(teller: &mut Teller, from: u64, to: u64, amount: u64) -> Result<bool, Busy>
+    requires { from ≢ to }
+    ensures { (more : List (Entry ℕ)) × (teller.new.client.mine ≡ teller.old.client.mine ++ more)
+        × EachKeepsTotal more }
+{
+    teller.update_two(&NumKey(from), &NumKey(to), |less, more| {
+        moved(amount, less, more)
+    })
+}
+
+/// Makes the payments, each between other accounts than the one before.
+fn work(teller: &mut Teller) -> Result<()> {
+    for step in 0..PAYMENTS {
+        let from = step % ACCOUNTS;
+        let to = (step * step + 1) % ACCOUNTS;
+        if from != to {
+            pay(teller, from, to, step % 7)?;
+        }
+    }
+    Ok(())
+}
+
+/// The sum of all accounts of the locked table.
+fn total(accounts: &LockedHandle<NumKey, u64>) -> u64 {
+    let mut sum = 0u64;
+    for (_, balance) in accounts.iter() {
+        sum = sum.saturating_add(*balance);
+    }
+    sum
+}
+
+/// Locks the table and adds up, again and again. Whether nothing was ever missing.
+fn audit(mut auditor: Teller) -> Result<bool> {
+    let mut is_whole = true;
+    for _ in 0..AUDITS {
+        let accounts = auditor.lock()?;
+        is_whole = is_whole && total(&accounts) == ACCOUNTS * FUND;
+        auditor = accounts.unlock_caller();
+    }
+    Ok(is_whole)
+}
+
+/// Lets one handle pay, and the other audit meanwhile.
+fn run(rt: &(impl Threads + Sync), alloc: Global) -> Result<bool> {
+    let mut handles = Handle::open(alloc, Settings::for_keys(ACCOUNTS, 2))?;
+    let mut teller = handles.pop().context("no handle")?;
+    let auditor = handles.pop().context("no handle")?;
+    open_accounts(&mut teller)?;
+    let (paid, audited) = thread::join(rt, || work(&mut teller), || audit(auditor));
+    paid?;
+    audited
 }
 
 fn main(rt: HostRuntime) -> Result<()> {
-    let [first, second, anew] = keep(rt.alloc())?;
-    let shared = share(&rt, rt.alloc())?;
+    let is_whole = run(&rt, rt.alloc())?;
     println!(rt;
-        "the ledger: {first:?} {second:?}\n\
-         begun anew: {anew:?}\n\
-         shared: {shared} on {ACCOUNTS} accounts"
+        "all of {} was there each time: {is_whole}",
+        ACCOUNTS * FUND
     )?;
     Ok(())
 }

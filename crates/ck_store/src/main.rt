@@ -1,5 +1,4 @@
-//! A store of sessions: keys of its own, and a struct as value, changed by closures, with an expiry
-//! and a limit on how many there are.
+//! A store of sessions: keys of its own, and a struct as value, changed by closures, with an expiry.
 #![tactic(auto)]
 
 mod key;
@@ -13,18 +12,9 @@ use std::thread::{self, Threads};
 /// A session ends when it wasn't used for so long.
 const LIFETIME: u64 = 50;
 
-/// So many sessions may be open.
-const LIMIT: u64 = 300;
-
-#[derive(Clone, Copy, PartialEq, Eq)]
-enum Role {
-    Guest,
-    Member,
-}
-
 #[derive(Clone, Copy)]
 struct Session {
-    role: Role,
+    is_member: bool,
     seen: u64,
     hits: u32,
 }
@@ -36,7 +26,7 @@ type Store = LockedHandle<SessionKey, Session>;
 /// Opens the session where it isn't open, and else notes that it was used.
 fn touch(client: &mut Client, key: SessionKey, now: u64) -> Result<()> {
     let fresh = Session {
-        role: Role::Guest,
+        is_member: false,
         seen: now,
         hits: 1,
     };
@@ -56,7 +46,7 @@ fn log_in(client: &mut Client, key: SessionKey) -> Result<()> {
             return None;
         }
         Some(Session {
-            role: Role::Member,
+            is_member: true,
             ..*session
         })
     })?;
@@ -87,32 +77,9 @@ fn sweep(store: &mut Store, now: u64) {
     });
 }
 
-/// Ends the guests' sessions, where more are open than may be.
-fn trim(store: &mut Store) {
-    if store.len() > LIMIT {
-        store.retain(|_key: &SessionKey, session: &Session| session.role == Role::Member);
-    }
-}
-
-/// How many sessions were open, used lately, and left.
-struct Counts {
-    all: u64,
-    fresh: u64,
-    left: u64,
-}
-
-/// Ends the sessions that aren't to stay, and counts.
-fn tidy(store: &mut Store) -> Counts {
-    let all = store.len();
-    sweep(store, 100);
-    let fresh = store.len();
-    trim(store);
-    let left = store.len();
-    Counts { all, fresh, left }
-}
-
-/// Two clients serve a device each, in threads of their own, and one then tidies the store.
-fn run(rt: &(impl Threads + Sync), alloc: Global) -> Result<Counts> {
+/// Two clients serve a device each, in threads of their own, and one then sweeps the store. Tells how
+/// many sessions there were, and are.
+fn run(rt: &(impl Threads + Sync), alloc: Global) -> Result<(u64, u64)> {
     let mut clients = Handle::open(alloc, Settings::for_keys(1000, 2))?;
     let mut first = clients.pop().context("no client")?;
     let mut second = clients.pop().context("no client")?;
@@ -120,13 +87,15 @@ fn run(rt: &(impl Threads + Sync), alloc: Global) -> Result<Counts> {
     one?;
     two?;
     let mut store = first.lock()?;
-    let counts = tidy(&mut store);
+    let all = store.len();
+    sweep(&mut store, 100);
+    let left = store.len();
     store.unlock();
-    Ok(counts)
+    Ok((all, left))
 }
 
 fn main(rt: HostRuntime) -> Result<()> {
-    let Counts { all, fresh, left } = run(&rt, rt.alloc())?;
-    println!(rt; "{all} sessions, {fresh} of them used lately, {left} left")?;
+    let (all, left) = run(&rt, rt.alloc())?;
+    println!(rt; "{all} sessions, {left} of them used lately")?;
     Ok(())
 }
