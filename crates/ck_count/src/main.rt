@@ -1,8 +1,8 @@
 //! Counts the words of its input by two threads, and prints how often some of them stand there.
 #![tactic(auto)]
 
-use anyhow::{Context, Result};
-use cuckoo_map::{Handle, KeyFault, Settings, TextKey};
+use anyhow::Result;
+use cuckoo_map::{Fault, Handle, KeyFault, Settings, TextKey};
 use std::alloc::Global;
 use std::io;
 use std::thread::{self, Threads};
@@ -10,7 +10,7 @@ use std::thread::{self, Threads};
 type Counter = Handle<TextKey, u64>;
 
 /// Counts the words; one of more than 64 bytes is left out.
-fn count(alloc: Global, counter: &mut Counter, words: &[&str]) -> Result<()> {
+fn count(alloc: Global, counter: &mut Counter, words: &[&str]) -> Result<(), Fault> {
     for word in words {
         match TextKey::new(alloc, word.as_bytes()) {
             Ok(key) => counter.upsert(key, |count| count.saturating_add(1), 1)?,
@@ -22,10 +22,11 @@ fn count(alloc: Global, counter: &mut Counter, words: &[&str]) -> Result<()> {
 }
 
 /// Counts all words, by two threads.
-fn count_all(rt: &(impl Threads + Sync), alloc: Global, words: &[&str]) -> Result<Counter> {
+fn count_all(rt: &(impl Threads + Sync), alloc: Global, words: &[&str]) -> Result<Counter, Fault> {
     let mut counters = Handle::open(alloc, Settings::for_keys(10_000, 2))?;
-    let mut first = counters.pop().context("no handle")?;
-    let mut second = counters.pop().context("no handle")?;
+    let (Some(mut first), Some(mut second)) = (counters.pop(), counters.pop()) else {
+        unreachable!()
+    };
     let (left, right) = words.split_at(words.len() / 2);
     let (one, two) = thread::join(
         rt,
@@ -37,9 +38,8 @@ fn count_all(rt: &(impl Threads + Sync), alloc: Global, words: &[&str]) -> Resul
     Ok(first)
 }
 
-/// Prints how many different words there are, and how often some of them stand.
+/// Prints how often some words stand there.
 fn report(rt: &impl Print, counter: &mut Counter) -> Result<()> {
-    println!(rt; "{} different words", counter.len()?)?;
     for word in ["the", "cuckoo", "magpie"] {
         let count = counter.find(word)?.unwrap_or(0);
         println!(rt; "{count} {word}")?;

@@ -6,9 +6,9 @@ ghost use Rattle.std.specs.Prelude.{◌≡◌, ◌≢◌, ℕ, ◌++◌, List};
 ghost use Rattle.ck_model.specs.declared.history.Entry.{Entry};
 ghost use Rattle.ck_core.specs.Sums.{EachKeepsTotal};
 
-use anyhow::{Context, Result};
+use anyhow::Result;
 use ck_laws::ledger::moved;
-use cuckoo_map::{Busy, Handle, LockedHandle, NumKey, Settings};
+use cuckoo_map::{Busy, Fault, Handle, LockedHandle, NumKey, Settings};
 use std::alloc::Global;
 use std::thread::{self, Threads};
 
@@ -28,7 +28,7 @@ const AUDITS: u64 = 20;
 type Teller = Handle<NumKey, u64>;
 
 /// Opens the accounts.
-fn open_accounts(teller: &mut Teller) -> Result<()> {
+fn open_accounts(teller: &mut Teller) -> Result<(), Fault> {
     for account in 0..ACCOUNTS {
         teller.insert(NumKey(account), FUND)?;
     }
@@ -48,7 +48,7 @@ fn pay(teller: &mut Teller, from: u64, to: u64, amount: u64) -> Result<bool, Bus
 }
 
 /// Makes the payments, each between other accounts than the one before.
-fn work(teller: &mut Teller) -> Result<()> {
+fn work(teller: &mut Teller) -> Result<(), Busy> {
     for step in 0..PAYMENTS {
         let from = step % ACCOUNTS;
         let to = (step * step + 1) % ACCOUNTS;
@@ -69,7 +69,7 @@ fn total(accounts: &LockedHandle<NumKey, u64>) -> u64 {
 }
 
 /// Locks the table and adds up, again and again. Whether nothing was ever missing.
-fn audit(mut auditor: Teller) -> Result<bool> {
+fn audit(mut auditor: Teller) -> Result<bool, Fault> {
     let mut is_whole = true;
     for _ in 0..AUDITS {
         let accounts = auditor.lock()?;
@@ -80,10 +80,11 @@ fn audit(mut auditor: Teller) -> Result<bool> {
 }
 
 /// Lets one handle pay, and the other audit meanwhile.
-fn run(rt: &(impl Threads + Sync), alloc: Global) -> Result<bool> {
+fn run(rt: &(impl Threads + Sync), alloc: Global) -> Result<bool, Fault> {
     let mut handles = Handle::open(alloc, Settings::for_keys(ACCOUNTS, 2))?;
-    let mut teller = handles.pop().context("no handle")?;
-    let auditor = handles.pop().context("no handle")?;
+    let (Some(mut teller), Some(auditor)) = (handles.pop(), handles.pop()) else {
+        unreachable!()
+    };
     open_accounts(&mut teller)?;
     let (paid, audited) = thread::join(rt, || work(&mut teller), || audit(auditor));
     paid?;

@@ -3,8 +3,8 @@
 
 mod key;
 
-use anyhow::{Context, Result};
-use cuckoo_map::{Handle, LockedHandle, Settings};
+use anyhow::Result;
+use cuckoo_map::{Fault, Handle, LockedHandle, Settings};
 use key::SessionKey;
 use std::alloc::Global;
 use std::thread::{self, Threads};
@@ -14,7 +14,6 @@ const LIFETIME: u64 = 50;
 
 #[derive(Clone, Copy)]
 struct Session {
-    is_member: bool,
     seen: u64,
     hits: u32,
 }
@@ -24,12 +23,8 @@ type Client = Handle<SessionKey, Session>;
 type Store = LockedHandle<SessionKey, Session>;
 
 /// Opens the session where it isn't open, and else notes that it was used.
-fn touch(client: &mut Client, key: SessionKey, now: u64) -> Result<()> {
-    let fresh = Session {
-        is_member: false,
-        seen: now,
-        hits: 1,
-    };
+fn touch(client: &mut Client, key: SessionKey, now: u64) -> Result<(), Fault> {
+    let fresh = Session { seen: now, hits: 1 };
     let used = |session: Session| Session {
         seen: session.seen.max(now),
         hits: session.hits.saturating_add(1),
@@ -39,22 +34,8 @@ fn touch(client: &mut Client, key: SessionKey, now: u64) -> Result<()> {
     Ok(())
 }
 
-/// Makes the session one of a member, where it is open and used often enough.
-fn log_in(client: &mut Client, key: SessionKey) -> Result<()> {
-    client.replace_if(&key, |session: &Session| {
-        if session.hits < 2 {
-            return None;
-        }
-        Some(Session {
-            is_member: true,
-            ..*session
-        })
-    })?;
-    Ok(())
-}
-
 /// What a thread is asked for.
-fn serve(client: &mut Client, device: u32) -> Result<()> {
+fn serve(client: &mut Client, device: u32) -> Result<(), Fault> {
     for now in 0..100u32 {
         for step in 0..8u32 {
             let key = SessionKey {
@@ -62,9 +43,6 @@ fn serve(client: &mut Client, device: u32) -> Result<()> {
                 device,
             };
             touch(client, key, u64::from(now))?;
-            if step == 0 {
-                log_in(client, key)?;
-            }
         }
     }
     Ok(())
@@ -79,10 +57,11 @@ fn sweep(store: &mut Store, now: u64) {
 
 /// Two clients serve a device each, in threads of their own, and one then sweeps the store. Tells how
 /// many sessions there were, and are.
-fn run(rt: &(impl Threads + Sync), alloc: Global) -> Result<(u64, u64)> {
+fn run(rt: &(impl Threads + Sync), alloc: Global) -> Result<(u64, u64), Fault> {
     let mut clients = Handle::open(alloc, Settings::for_keys(1000, 2))?;
-    let mut first = clients.pop().context("no client")?;
-    let mut second = clients.pop().context("no client")?;
+    let (Some(mut first), Some(mut second)) = (clients.pop(), clients.pop()) else {
+        unreachable!()
+    };
     let (one, two) = thread::join(rt, || serve(&mut first, 0), || serve(&mut second, 1));
     one?;
     two?;
