@@ -1,4 +1,4 @@
-//! A store of sessions: keys of its own, and a struct as value, changed by closures, with an expiry.
+//! A store of sessions: keys of its own, and a struct as value, changed by a closure, with an expiry.
 #![tactic(auto)]
 
 mod key;
@@ -28,7 +28,6 @@ fn touch(client: &mut Client, key: SessionKey, now: u64) -> Result<(), Fault> {
     let used = |session: Session| Session {
         seen: session.seen.max(now),
         hits: session.hits.saturating_add(1),
-        ..session
     };
     client.upsert(key, used, fresh)?;
     Ok(())
