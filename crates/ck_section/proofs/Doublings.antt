@@ -16,13 +16,13 @@ use Rattle.ck_model.proofs.Numbered.{if_same, if_else}
 use Rattle.ck_model.proofs.Rows.{held_there, power_held}
 
 module _ (hash : Name → ℕ) (q : Name) where
-  after_first : (p p2 b : ℕ) → b ≡ index_of p (hash q) → bucket_after hash p p2 q b ≡ index_of p2 (hash q)
+  pub after_first : (p p2 b : ℕ) → b ≡ index_of p (hash q) → bucket_after hash p p2 q b ≡ index_of p2 (hash q)
   after_first p p2 b e = if_same b (index_of p (hash q)) (index_of p2 (hash q)) (second_of p2 (hash q)) e
 
-  after_second : (p p2 b : ℕ) → b ≢ index_of p (hash q) → bucket_after hash p p2 q b ≡ second_of p2 (hash q)
+  pub after_second : (p p2 b : ℕ) → b ≢ index_of p (hash q) → bucket_after hash p p2 q b ≡ second_of p2 (hash q)
   after_second p p2 b ne = if_else b (index_of p (hash q)) (index_of p2 (hash q)) (second_of p2 (hash q)) ne
 
-  is_second : (p b : ℕ) → IsBucketOf hash p q b → b ≢ index_of p (hash q) → b ≡ second_of p (hash q)
+  pub is_second : (p b : ℕ) → IsBucketOf hash p q b → b ≢ index_of p (hash q) → b ≡ second_of p (hash q)
   is_second p b home ne = ⊎_elim (λ e. absurd (ne e)) (λ e. e) home
 
   -- a bucket at the power at which it is one

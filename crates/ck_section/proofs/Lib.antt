@@ -11,6 +11,7 @@ pub mod Renaming
 pub mod Kept
 pub mod AllStripes
 pub mod Doublings
+pub mod DoubledRoom
 pub mod Followed
 pub mod Growing
 pub mod RoomMade

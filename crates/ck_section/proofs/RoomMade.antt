@@ -16,7 +16,7 @@ use Rattle.ck_stripe.specs.Stripes.{contents_of}
 use Rattle.ck_stripe.specs.Tables.{IsTable, power_in}
 use Rattle.ck_section.specs.Doublings.{Grows}
 use Rattle.ck_section.specs.Calls.{IsWithoutRoom}
-use Rattle.ck_section.specs.Room.{IsLack, IsWithoutPath, GivesReason, GrowsForRoom}
+use Rattle.ck_section.specs.Room.{IsLack, IsWithoutPath, GivesReason, GrowsForRoom, OnlyDoubles}
 use Rattle.ck_section.proofs.Found.{sound_at}
 use Rattle.ck_model.proofs.Identities.{identity_of_none, identity_on}
 use Rattle.ck_section.proofs.Doublings.{doubled_none, doubled_on}
@@ -97,6 +97,13 @@ module _ {V : Type 0} (hash : Name → ℕ) (s max min_load : ℕ) (q : Name) wh
   -- what has doubled so, and then gone by no call to other contents of its power, has doubled for room alone
   pub grows_for_room : (old cur new : List (StripeState V)) → (Lawful (layout hash s max) (contents_of old) → Grown old cur) → power_in new ≡ power_in cur → GrowsForRoom (layout hash s max) min_load old new q
   grows_for_room old cur new grown level lawful p lo hi = (grown lawful).each p lo (subst (λ n. p < n) level hi)
+
+  -- what has doubled so, and stays as it is, has only doubled
+  pub only_doubles : (old cur mid new : List (StripeState V)) → (Lawful (layout hash s max) (contents_of old) → Grown old cur) → contents_of mid ≡ contents_of cur → power_in mid ≡ power_in cur → new ≡ mid
+      → OnlyDoubles (layout hash s max) old new
+  only_doubles old cur mid new grown same level kept lawful =
+      subst (λ (x : ℕ × Stripes V). IsDoubledTo (layout hash s max) x.0 (contents_of old) x.1)
+      (λ i. (sym (ap power_in kept ∙ level) i, sym (ap contents_of kept ∙ same) i)) (grown lawful).doubled
 
   -- what is refused for a lack
   pub refused_in : (old cur mid new : List (StripeState V)) → (Lawful (layout hash s max) (contents_of old) → Grown old cur) → contents_of mid ≡ contents_of cur → contents_of new ≡ contents_of mid → IsTable s mid

@@ -19,7 +19,8 @@ use Rattle.ck_section.specs.Entries.{IsOccupied, IsVacant, IsEntryOf}
 use Rattle.ck_section.specs.Calls.{IsWithRoom, IsWithoutRoom, ChangesContents}
 use Rattle.ck_section.specs.RoomForAll.{KeepsOthers}
 use Rattle.ck_section.proofs.Found.{no_room, has_room, bound_room, set_changes, changes_none, changes_on}
-use Rattle.ck_section.proofs.Decided.{IsCallOn, s_at, keeps_unbound, keeps_bound, placed, removed, replaced}
+use Rattle.ck_section.proofs.Decided.{IsCallOn, s_at, freed, keeps_unbound, keeps_bound, placed, removed, replaced}
+use Rattle.ck_section.proofs.Rebinding.{keeps_s, keeps_slot}
 use Rattle.ck_section.proofs.KeptOthers.{free_where, free_with, slot_keeps}
 
 -- a fact that holds anyway
@@ -144,6 +145,12 @@ module _ {V : Type 0} where
 
       pub took_keeps : (n : ℕ) (new : List (StripeState V)) → new ≡ set_slot cur at None n → KeepsOthers q stripes new
       took_keeps n new = slot_keeps q stripes cur new at None n same here.slot.reach.inside (free_with q _ here.found.0 here.found.1) tt
+
+      -- the slot of an entry that is taken out is room for the name
+      pub took_room : (n : ℕ) (new : List (StripeState V)) → new ≡ set_slot cur at None n → IsWithRoom hash place.s new q
+      took_room n new e = subst (λ (l : List (StripeState V)). IsWithRoom hash place.s l q) (sym (e ∙ ap (λ (l : List (StripeState V)). set_slot l at None n) same))
+          (λ max lawful. has_room hash place.s max (set_slot stripes at None n) lawful q at (keeps_slot stripes at here.slot.reach.inside None n hash q at here.slot)
+          (keeps_s stripes at here.slot.reach.inside None n at.index ∙ s_at hash stripes q place of at here.slot) (freed stripes at here.slot.reach n))
 
       -- a call that puts a value in place of the old one, which it gives
       pub swapped : (act : Act V) (w r : V) (new : List (StripeState V)) → ((v : V) → Answers act (Some v) (Was (Some v)) (Some w))

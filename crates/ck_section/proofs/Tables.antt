@@ -1,5 +1,5 @@
 -- All stripes of a table are a whole: what a search sees in them is what stands in their contents.
-use Rattle.std.proofs.Common.{◌≡◌, ℕ, ◌*◌, ◌/◌, ◌%◌, ◌^◌, ◌<◌, ◌≤◌, Bool, true, false, List, [], ◌∷◌, Option, Some, None, IfNone, Result, Ok, Err, IfErr, length, map, refl, sym, ◌∙◌, ap, subst, arith}
+use Rattle.std.proofs.Common.{◌≡◌, ℕ, ◌*◌, ◌/◌, ◌%◌, ◌^◌, ◌<◌, ◌≤◌, Bool, true, false, List, [], ◌∷◌, Option, Some, None, IfNone, Result, Ok, Err, IfErr, OnErr, length, map, refl, sym, ◌∙◌, ap, subst, arith}
 use Rattle.std.specs.Bool.{OnFalse}
 use Rattle.std.specs.Result.{IsErrAnd}
 use Rattle.std.proofs.Math.Nat.{mod-lt, mod-eq_of_lt}
@@ -35,6 +35,10 @@ none_maps (Some a) P Q f p = tt
 pub err_maps : {A E : Type 0} (r : Result A E) (P Q : E → Type 0) → ((e : E) → P e → Q e) → IsErrAnd r P → IfErr r Q
 err_maps (Ok a) P Q f p = tt
 err_maps (Err e) P Q f p = f e p
+
+pub err_anyway : {A E : Type 0} (r : Result A E) (P : Type 0) → P → OnErr r P
+err_anyway (Ok a) P p = tt
+err_anyway (Err e) P p = p
 
 pub false_maps : (b : Bool) (P Q : Type 0) → (P → Q) → OnFalse b P → OnFalse b Q
 false_maps true P Q f p = tt

@@ -59,6 +59,10 @@ module _ {V : Type 0} where
   abbrev pub GivesReason : Layout → ℕ → List (StripeState V) → List (StripeState V) → Name → Lack → Type 0
   GivesReason k min_load old new q why = Lawful k (contents_of old) → Grounds k min_load (contents_of new) q (reason_of_lack why)
 
+  -- Lawful stripes have doubled so often as their powers say, and nothing else was done to them: each entry has kept its slot.
+  abbrev pub OnlyDoubles : Layout → List (StripeState V) → List (StripeState V) → Type 0
+  OnlyDoubles k old new = Lawful k (contents_of old) → IsDoubledTo k (power_in new) (contents_of old) (contents_of new)
+
   -- Lawful stripes have doubled only where no path for the name existed and the load was high enough: at each power from that of old on, below that of new, growing alone could make room.
   abbrev pub GrowsForRoom : Layout → ℕ → List (StripeState V) → List (StripeState V) → Name → Type 0
   GrowsForRoom k min_load old new q = Lawful k (contents_of old) → (p : ℕ) → power_in old ≤ p → p < power_in new

@@ -1,6 +1,6 @@
 //! Calls on one key, whose two buckets are held, but those that may bind it. Each looks into a bucket
 //! once, and compares keys of one partial alone.
-ghost use Rattle.std.specs.Prelude.{◌≡◌, false, Some, None, Ok, Err, IfSome, IfNone, IfOk, IfErr, OnErr, MatchBool, MatchResult, if◌then◌else◌};
+ghost use Rattle.std.specs.Prelude.{◌≡◌, false, Some, None, Ok, Err, IfSome, IfNone, OnSome, IfOk, IfErr, OnErr, MatchBool, MatchResult, if◌then◌else◌};
 ghost use Rattle.std.specs.Bool.{OnFalse};
 ghost use Rattle.std.specs.Fn.{FnOnceReturnsAt};
 ghost use Rattle.ck_model.specs.declared.history.Act.{Act};
@@ -10,7 +10,7 @@ ghost use Rattle.ck_model.specs.declared.history.Reply.TheVariants.{Was, Done, A
 ghost use Rattle.ck_model.specs.Promise.{Answers};
 ghost use Rattle.ck_section.specs.Places.{IsPlaceOf};
 ghost use Rattle.ck_section.specs.Entries.{IsOccupied, IsVacant};
-ghost use Rattle.ck_section.specs.Calls.{effect, IsCall, ChangesContents};
+ghost use Rattle.ck_section.specs.Calls.{effect, IsCall, IsWithRoom, ChangesContents};
 ghost use Rattle.ck_section.specs.Acts.{Updates, Erases, Changes};
 ghost use Rattle.ck_section.specs.RoomForAll.{KeepsOthers};
 
@@ -67,7 +67,8 @@ pub fn update<K: TableKey + Drop, V: Drop, Q: Query<K>, H: Held<Stripe<K, V>>>(
     Some(one_stripe::replace(held, at, value))
 }
 
-/// Unbinds the key, and gives the value that it had; `None` where it is unbound.
+/// Unbinds the key, and gives the value that it had, whose slot is free then; `None` where it is
+/// unbound.
 pub fn erase<K: TableKey + Drop, V: Drop, Q: Query<K>, H: Held<Stripe<K, V>>>(
     held: &mut H,
     place: KeyPlace,
@@ -79,6 +80,7 @@ pub fn erase<K: TableKey + Drop, V: Drop, Q: Query<K>, H: Held<Stripe<K, V>>>(
     ensures same { IfNone result (H.stripes held.new ≡ H.stripes held.old) }
     ensures rest { ChangesContents (H.stripes held.old) (H.stripes held.new) }
     ensures others { KeepsOthers (Q.name key) (H.stripes held.old) (H.stripes held.new) }
+    ensures room { OnSome result (IsWithRoom K.hash place.s (H.stripes held.new) (Q.name key)) }
     ensures stays { H.stays held.old held.new }
 {
     let at = find_slot(held, place, key)?;

@@ -11,7 +11,7 @@ ghost use Rattle.ck_section.specs.Doublings.{Grows};
 ghost use Rattle.ck_section.specs.Places.{IsPlaceOf};
 ghost use Rattle.ck_section.specs.Hops.{IsNoCall};
 ghost use Rattle.ck_section.specs.Calls.{ChangesContents, IsWithRoom, IsWithoutRoom};
-ghost use Rattle.ck_section.specs.Room.{settled_at, IsWithoutPath, IsLack, MakesRoom, GivesReason, GrowsForRoom};
+ghost use Rattle.ck_section.specs.Room.{settled_at, IsWithoutPath, IsLack, MakesRoom, GivesReason, GrowsForRoom, OnlyDoubles};
 
 use crate::double::double_all;
 use crate::entry::find_entry;
@@ -26,8 +26,8 @@ use ck_stripe::{Grower, Held, Stripe, has_entries, one_stripe, settle_all};
 ///
 /// Entries are displaced where that makes room. Else the table doubles, if it has fewer than 2^max
 /// buckets and at least `min_load` per cent of its slots are taken, in the memory that the grower has
-/// if it is for that doubling, and it is tried again. A refused request for memory leaves the table
-/// as it was.
+/// if it is for that doubling, and it is tried again. Where there is no room in the end, nothing was
+/// displaced. A refused request for memory leaves the table as it was.
 pub fn make_room<K: TableKey + Drop, V: Drop, H: Held<Stripe<K, V>>>(
     held: &mut H,
     s: u32,
@@ -48,6 +48,8 @@ pub fn make_room<K: TableKey + Drop, V: Drop, H: Held<Stripe<K, V>>>(
         (H.stripes held.old) (H.stripes held.new) (K.name key.now)) }
     ensures refused { IfErr result (GivesReason (layout K.hash s max) min_load
         (H.stripes held.old) (H.stripes held.new) (K.name key.now)) }
+    ensures left { OnErr result (OnlyDoubles (layout K.hash s max)
+        (H.stripes held.old) (H.stripes held.new)) }
     ensures doubled { GrowsForRoom (layout K.hash s max) min_load
         (H.stripes held.old) (H.stripes held.new) (K.name key.now) }
     ensures stays { H.stays held.old held.new }

@@ -4,7 +4,7 @@ use Rattle.std.proofs.Math.Pow.{pow_mono}
 use Rattle.std.proofs.lemmas.List.{length-map, take-append-le, take_all}
 use Rattle.std.proofs.lemmas.Nat.{pow_pos}
 use Rattle.std.proofs.lemmas.Result.{IfOk-weaker, IfErr-weaker}
-use Rattle.std.specs.Prelude.{Option, Bool}
+use Rattle.std.specs.Prelude.{Option, OnSome, Bool}
 use Rattle.std.specs.FinMap.{get, len, from_entries}
 use Rattle.std.specs.Borrow.{Bor}
 use Rattle.std.specs.Fn.{Mut}
@@ -18,21 +18,25 @@ use Rattle.ck_model.specs.declared.settings.Settings.{Settings}
 use Rattle.ck_model.specs.Promise.{Name, Answers, Step, After}
 use Rattle.ck_model.specs.Numbered.{IsIn, numbers, Holds}
 use Rattle.ck_model.specs.Contents.{Layout, layout, layout_of, Stripes, Lawful, pairs_in, pairs_of, bindings, NamesApart, power_of}
-use Rattle.ck_model.specs.Paths.{HasNoRoom, Grounds, reason_of_lack}
+use Rattle.ck_model.specs.Paths.{HasNoRoom, IsStuck, Grounds, reason_of_lack}
 use Rattle.ck_model.specs.Sections.{HasAll, Renewed, Section, IdentitySection}
 use Rattle.ck_model.proofs.Numbered.{held_of_in, in_held}
 use Rattle.ck_model.proofs.Counted.{len-bindings}
 use Rattle.ck_model.proofs.Doubling.{pairs_apart}
+use Rattle.ck_model.proofs.Rows.{power_held}
+use Rattle.ck_model.specs.Doubling.{IsDoubledTo}
 use Rattle.ck_stripe.specs.Stripe.{StripeState}
 use Rattle.ck_stripe.proofs.Writes.{few_entries}
 use Rattle.ck_stripe.specs.Stripes.{stripe_at, contents_of, settled_stripes}
 use Rattle.ck_section.specs.declared.place.KeyPlace.{KeyPlace}
 use Rattle.ck_model.specs.declared.lack.Lack.{Lack}
+use Rattle.ck_model.specs.declared.lack.Lack.TheVariants.{Memory, Full, LoadTooLow}
 use Rattle.ck_section.specs.Places.{IsPlaceOf}
 use Rattle.ck_stripe.specs.Tables.{power_in, KeepsBindings, AreAllHeld, AreSettled, IsTable}
-use Rattle.ck_section.specs.Room.{MakesRoom, GivesReason, GrowsForRoom}
-use Rattle.ck_section.specs.Calls.{IsWithoutRoom, ChangesContents}
+use Rattle.ck_section.specs.Room.{MakesRoom, GivesReason, GrowsForRoom, OnlyDoubles}
+use Rattle.ck_section.specs.Calls.{IsWithRoom, IsWithoutRoom, ChangesContents}
 use Rattle.ck_section.proofs.Decided.{IsCallOn}
+use Rattle.ck_section.proofs.DoubledRoom.{stuck_full, none_before}
 use Rattle.ck_stripe.proofs.Tables.{holds_at}
 use Rattle.ck_stripe.proofs.Settled.{all_settled, contents_settled}
 use Rattle.ck_section.proofs.Kept.{table_after, settled_after, power_kept}
@@ -54,7 +58,7 @@ use Rattle.ck_words.proofs.Seating.{length-numbers, number_at}
 use Rattle.ck_words.proofs.WholeTables.{lawful_held}
 use Rattle.cuckoo_map.specs.Refusals.{IsStripeIn}
 use Rattle.ck_refusal.specs.Faults.{why_of}
-use Rattle.cuckoo_map.specs.Locking.{LockedState, locked_of, map_of, locked_power, IsSameSession, IsLocked, HasLocked, HasActed, HasChanged, HasDoubledFor, Clears, Lists, KeepsMap, LacksRoom, SeeksRoom, Retains}
+use Rattle.cuckoo_map.specs.Locking.{LockedState, locked_of, map_of, locked_power, IsSameSession, IsLocked, HasLocked, HasActed, HasChanged, HasDoubledFor, Clears, Lists, KeepsMap, HasRoomFor, LacksRoom, SeeksRoom, Retains}
 use Rattle.cuckoo_map.proofs.Sizes.{renewed_same, has_all, few_of_each}
 use Rattle.cuckoo_map.proofs.Counted.{one_of_lawful}
 
@@ -312,15 +316,32 @@ module _ {V : Type 0} where
     pub has_changed : ChangesContents p.stripes q.stripes → IsCallOn hash place.s p.stripes name act reply q.stripes → HasChanged name s (locked_of w q) act reply
     has_changed changes call = record { acted = has_acted call; power = keeps_power l q kept is changes }
 
+    -- where the call left room for the name among the stripes, there is room for it
+    pub has_room_left : ChangesContents p.stripes q.stripes → IsCallOn hash place.s p.stripes name act reply q.stripes → {A : Type 0} (o : Option A) → OnSome o (IsWithRoom hash place.s q.stripes name)
+        → OnSome o (HasRoomFor hash name (locked_of w q))
+    has_room_left changes call None room = tt
+    has_room_left changes call (Some a) room = subst (λ n. ¬ (HasNoRoom (layout hash n w.settings.max) (contents_of q.stripes) name)) of_table
+        (room w.settings.max (subst (λ n. Lawful (layout hash n w.settings.max) (contents_of q.stripes)) (sym of_table) (acted_locked changes call).renewed.lawful))
+
   -- a locked table whose number of buckets stayed has not grown
   pub grows_not : (hash : Name → ℕ) (q : Name) (l m : LockedState V) → locked_power m ≡ locked_power l → HasDoubledFor hash q l m
   grows_not hash q l m same power from below = absurd (omega arith)
 
+  err_weaker : {A E : Type 0} (r : Result A E) {P Q : Type 0} → (P → Q) → OnErr r P → OnErr r Q
+  err_weaker (Ok a) f p = tt
+  err_weaker (Err e) f p = f p
+
+  -- whatever the lack, no displacement makes room
+  stuck_by : (k : Layout) (min_load : ℕ) (hs : Stripes V) (q : Name) (lack : Lack) → Grounds k min_load hs q (reason_of_lack lack) → IsStuck k hs q
+  stuck_by k min_load hs q Memory grounds = grounds.0
+  stuck_by k min_load hs q Full grounds = grounds.0
+  stuck_by k min_load hs q LoadTooLow grounds = grounds.0
+
   -- room was made or not, and then all stripes were settled
   pub seeks_room : (hash : Name → ℕ) (set : Settings) (q : Name) (found : Result (Unit {0}) Lack) (old mid new : List (StripeState V)) → new ≡ settled_stripes mid → IsTable set.s mid
       → KeepsBindings (layout_of hash set) old mid → OnOk found (MakesRoom (layout_of hash set) old mid q) → IfErr found (GivesReason (layout_of hash set) set.min_load old mid q)
-      → GrowsForRoom (layout_of hash set) set.min_load old mid q → SeeksRoom hash set q found old new
-  seeks_room hash set q found old mid new same table no_call room refused grows =
+      → OnErr found (OnlyDoubles (layout_of hash set) old mid) → GrowsForRoom (layout_of hash set) set.min_load old mid q → SeeksRoom hash set q found old new
+  seeks_room hash set q found old mid new same table no_call room refused left grows =
       let k : Layout = layout_of hash set in
       let kept : contents_of new ≡ contents_of mid = ap (λ (ss : List (StripeState V)). contents_of ss) same ∙ contents_settled mid in
       let held : AreAllHeld set.s new = subst (λ (ss : List (StripeState V)). AreAllHeld set.s ss) (sym same) (all_settled set.s mid table) in
@@ -330,6 +351,7 @@ module _ {V : Type 0} where
         no_call = λ lawful. subst (λ (hs : Stripes V). IdentitySection k (contents_of old) hs) (sym kept) (no_call lawful);
         room = IfOk-weaker found _ _ (λ x makes lawful. subst (λ (hs : Stripes V). ¬ (HasNoRoom k hs q)) (sym kept) (makes lawful)) room;
         refused = IfErr-weaker found _ _ (λ lack grounds lawful. subst (λ (hs : Stripes V). Grounds k set.min_load hs q (reason_of_lack lack)) (sym kept) (grounds lawful)) refused;
+        left = err_weaker found (λ only lawful. subst (λ (x : ℕ × Stripes V). IsDoubledTo k x.0 (contents_of old) x.1) (λ i. (sym power i, sym kept i)) (only lawful)) left;
         grows = λ lawful p from below. grows lawful p from (subst (λ n. p < n) power below);
       }
 
@@ -348,14 +370,41 @@ module _ {V : Type 0} where
     pub has_room : OnOk found (¬ (HasNoRoom (layout_of hash w.settings) (contents_of q.stripes) name))
     has_room = IfOk-weaker found _ _ (λ x room. room l.renewed.lawful) seeks.room
 
+    some : (ss : List (StripeState V)) → IsTable w.settings.s ss → 0 < length ss
+    some ss table = subst (λ n. 0 < n) (sym table.count) (pow_pos w.settings.s)
+
+    -- a name without room had none before, where nothing was displaced
+    had_none : OnlyDoubles (layout_of hash w.settings) p.stripes q.stripes → (r : Name) → HasNoRoom (layout_of hash w.settings) (contents_of q.stripes) r → HasNoRoom (layout_of hash w.settings) (contents_of p.stripes) r
+    had_none only =
+        let k : Layout = layout_of hash w.settings in
+        let hs : Stripes V = contents_of p.stripes in
+        let ks : Stripes V = contents_of q.stripes in
+        let done = seeks.no_call l.renewed.lawful in
+        let before = holds_at p.stripes 0 (some p.stripes l.table) in
+        let now = holds_at q.stripes 0 (some q.stripes seeks.held.table) in
+        let rises : power_of hs ≤ power_of ks = subst (λ (x : ℕ × ℕ). x.0 ≤ x.1) (λ i. (sym (power_held k hs _ _ l.renewed.lawful before) i, sym (power_held k ks _ _ done.renewed.lawful now) i))
+        (not_below k hs ks done.renewed _ _ _ _ before now) in
+        let level : power_of ks ≡ power_in q.stripes = power_shown q.stripes (some q.stripes seeks.held.table) in
+        none_before k (power_in q.stripes) hs ks l.renewed.lawful done.renewed.lawful (subst (λ n. power_of hs ≤ n) level rises) level (only l.renewed.lawful) done.same_bindings
+
+    -- the lack of room, and what has room still
     pub lacks_room : (s : LockedState V) → locked_of w p ≡ s → IfErr found (λ lack. LacksRoom hash name (why_of lack) s (locked_of w q))
-    lacks_room s is = IfErr-weaker found _ _
-        (λ lack grounds. record {
-          kept = keeps_map s is;
-          lack = lack;
-          is = refl;
-          grounds = subst (λ (x : LockedState V). Grounds (layout_of hash x.caller.table.settings) x.caller.table.settings.min_load (contents_of q.stripes) name (reason_of_lack lack)) is (grounds l.renewed.lawful);
-        }) seeks.refused
+    lacks_room s is = go found seeks.left seeks.refused
+      where
+        go : (r : Result (Unit {0}) Lack) → OnErr r (OnlyDoubles (layout_of hash w.settings) p.stripes q.stripes) → IfErr r (GivesReason (layout_of hash w.settings) w.settings.min_load p.stripes q.stripes name)
+            → IfErr r (λ lack. LacksRoom hash name (why_of lack) s (locked_of w q))
+        go (Ok u) only grounds = tt
+        go (Err lack) only grounds =
+            let k : Layout = layout_of hash w.settings in
+            let stuck : HasNoRoom k (contents_of q.stripes) name = stuck_full k (contents_of q.stripes) name (stuck_by k w.settings.min_load (contents_of q.stripes) name lack (grounds l.renewed.lawful)) in
+            record {
+              kept = keeps_map s is;
+              none = subst (λ (x : LockedState V). ¬ (HasRoomFor hash name x)) is (λ room. room (had_none only name stuck));
+              others = subst (λ (x : LockedState V). (r : Name) → HasRoomFor hash r x → HasRoomFor hash r (locked_of w q)) is (λ r room none. room (had_none only r none));
+              lack = lack;
+              is = refl;
+              grounds = subst (λ (x : LockedState V). Grounds (layout_of hash x.caller.table.settings) x.caller.table.settings.min_load (contents_of q.stripes) name (reason_of_lack lack)) is (grounds l.renewed.lawful);
+            }
 
     -- and the table grew for want of it alone
     pub grows_for : (s : LockedState V) → locked_of w p ≡ s → HasDoubledFor hash name s (locked_of w q)
@@ -364,9 +413,6 @@ module _ {V : Type 0} where
         let after : locked_power (locked_of w q) ≡ power_in q.stripes = power_shown q.stripes (some q.stripes seeks.held.table) in
         subst (λ (x : LockedState V). HasDoubledFor hash name x (locked_of w q)) is
         (λ power from below. seeks.grows l.renewed.lawful power (subst (λ n. n ≤ power) before from) (subst (λ n. power < n) after below))
-      where
-        some : (ss : List (StripeState V)) → IsTable w.settings.s ss → 0 < length ss
-        some ss table = subst (λ n. 0 < n) (sym table.count) (pow_pos w.settings.s)
 
   -- what was done once room was made
   pub acted_since : (q : Name) (act : Act V) (reply : Reply V) (l m n : LockedState V) → KeepsMap l m → HasActed q m n act reply → HasActed q l n act reply

@@ -11,14 +11,14 @@ use Rattle.ck_model.specs.declared.history.Reply.TheVariants.{Closed}
 use Rattle.ck_model.specs.declared.settings.Settings.{Settings}
 use Rattle.ck_model.specs.Promise.{Name, Map, Client, Step, After, Follows}
 use Rattle.ck_model.specs.Contents.{layout_of, Stripes, bindings, NamesApart, power_of}
-use Rattle.ck_model.specs.Paths.{Grounds, reason_of_lack}
+use Rattle.ck_model.specs.Paths.{HasNoRoom, Grounds, reason_of_lack}
 use Rattle.ck_model.specs.Sections.{Renewed}
 use Rattle.ck_stripe.specs.Stripe.{StripeState}
 use Rattle.ck_model.specs.declared.lack.Lack.{Lack}
 use Rattle.ck_stripe.specs.Stripes.{contents_of}
 use Rattle.ck_stripe.specs.Tables.{AreAllHeld, AreSettled, IsTable, KeepsBindings}
 use Rattle.ck_section.specs.Retaining.{RetainsMap}
-use Rattle.ck_section.specs.Room.{MakesRoom, GivesReason, GrowsForRoom}
+use Rattle.ck_section.specs.Room.{MakesRoom, GivesReason, GrowsForRoom, OnlyDoubles}
 use Rattle.ck_core.specs.Steps.{growing}
 use Rattle.ck_words.specs.Words.{WordsState}
 use Rattle.ck_words.specs.Passes.{PassState, IsPassOf, ShowsSeen}
@@ -122,9 +122,15 @@ module _ {V : Type 0} where
     pub session : IsSameSession l m
     pub same : map_of m ≡ map_of l
 
-  -- From l to m the map stayed as it was. What all stripes contain then gives the reason to refuse the name.
+  -- The name is bound or one of its buckets has a free slot, so an insertion of it isn't refused.
+  abbrev pub HasRoomFor : (Name → ℕ) → Name → LockedState V → Type 0
+  HasRoomFor hash q l = ¬ (HasNoRoom (layout_of hash l.caller.table.settings) (contents_of l.stripes) q)
+
+  -- From l to m the map stayed as it was, and each name that had room has it still. This one had none, and what all stripes contain at m gives the reason to refuse it.
   pub record LacksRoom (hash : Name → ℕ) (q : Name) (why : Why) (l m : LockedState V) : Type 0 where
     pub kept : KeepsMap l m
+    pub none : ¬ (HasRoomFor hash q l)
+    pub others : (r : Name) → HasRoomFor hash r l → HasRoomFor hash r m
     pub lack : Lack
     pub is : why ≡ why_of lack
     pub grounds : Grounds (layout_of hash l.caller.table.settings) l.caller.table.settings.min_load (contents_of m.stripes) q (reason_of_lack lack)
@@ -154,12 +160,13 @@ module _ {V : Type 0} where
   abbrev pub ReservesLocked : ℕ → Result Bool GrowFault → LockedState V → LockedState V → Type 0
   ReservesLocked n result l m = (power : ℕ) × IsLeastPower n power × RehashesLocked power result l m
 
-  -- Room for the name was looked for among all stripes, which went from old to new: they are settled, and there is room, or a lack of it that was found. They doubled only where nothing else made room.
+  -- Room for the name was looked for among all stripes, which went from old to new: they are settled, and there is room, or a lack of it that was found, and nothing was displaced. They doubled only where nothing else made room.
   pub record SeeksRoom (hash : Name → ℕ) (set : Settings) (q : Name) (found : Result (Unit {0}) Lack) (old new : List (StripeState V)) : Type 0 where
     pub held : AreAllHeld set.s new
     pub no_call : KeepsBindings (layout_of hash set) old new
     pub room : OnOk found (MakesRoom (layout_of hash set) old new q)
     pub refused : IfErr found (GivesReason (layout_of hash set) set.min_load old new q)
+    pub left : OnErr found (OnlyDoubles (layout_of hash set) old new)
     pub grows : GrowsForRoom (layout_of hash set) set.min_load old new q
 
 -- From l to m the closure f was asked about each pair once, and those were unbound for which it answered false. The number of buckets stayed.

@@ -1,7 +1,8 @@
 //! Calls on a locked table that change or unbind a bound key.
+ghost use Rattle.std.specs.Prelude.{OnSome};
 ghost use Rattle.std.specs.Fn.{FnOnceReturnsAt};
 ghost use Rattle.ck_section.specs.Acts.{Updates, Modifies, Changes, Erases, ReplacesIf, TriesChange};
-ghost use Rattle.cuckoo_map.specs.Locking.{HasChanged};
+ghost use Rattle.cuckoo_map.specs.Locking.{HasChanged, HasRoomFor};
 
 use crate::locked::LockedOn;
 use crate::table_ref::TableRef;
@@ -40,9 +41,19 @@ impl<T: TableRef<K, V> + Drop, K: TableKey + Drop, V: Drop> LockedOn<T, K, V> {
         answer.ok()
     }
 
-    /// `Caller::erase`.
+    /// `Caller::erase`. The key has room then: put back before another insertion succeeds, it isn't
+    /// refused.
+    ///
+    /// ```
+    /// if let Some(value) = locked.erase(&NumKey(7)) {
+    ///     if let Err(refused) = locked.insert(NumKey(8), value) {
+    ///         let _ = locked.insert(NumKey(7), refused.value);
+    ///     }
+    /// }
+    /// ```
     pub fn erase<Q: Query<K>>(&mut self, key: Q) -> Option<V>
-        ensures { Erases (HasChanged (Q.name key) self.old self.new) result }
+        ensures erased { Erases (HasChanged (Q.name key) self.old self.new) result }
+        ensures room { OnSome result (HasRoomFor K.hash (Q.name key) self.new) }
     {
         let place = self.key_place(key);
         erase(&mut self.whole, place, key)

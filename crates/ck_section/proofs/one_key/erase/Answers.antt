@@ -1,7 +1,7 @@
 use Rattle.std.proofs.Common.{refl, None, Some}
 use Rattle.ck_model.specs.declared.history.Act.TheVariants.{Erase}
 use Rattle.ck_model.specs.declared.history.Reply.TheVariants.{Was}
-use Rattle.ck_section.proofs.Steps.{replied_none, lacked, took, took_keeps, unchanged, ready, slot_changes}
+use Rattle.ck_section.proofs.Steps.{replied_none, lacked, took, took_keeps, took_room, unchanged, ready, slot_changes}
 use Rattle.ck_section.proofs.KeptOthers.{keeps_same}
 use Rattle.ck_section.proofs.one_key.erase.Goals as goal
 
@@ -32,6 +32,9 @@ returns-clause-rest g c = slot_changes _ _ _ c.in_ok-at.at _ _ c.find_slot.ensur
 
 pub returns-clause-others : goal.returns-clause-others
 returns-clause-others g c = took_keeps _ _ _ _ c.requires _ c.find_slot.ensures.same c.in_ok-at.at c.in_ok-at.ensures.occupied _ _ c.remove-value.ensures.content
+
+pub returns-clause-room : goal.returns-clause-room
+returns-clause-room g c = took_room _ _ _ _ c.requires _ c.find_slot.ensures.same c.in_ok-at.at c.in_ok-at.ensures.occupied _ _ c.remove-value.ensures.content
 
 pub returns-clause-stays : goal.returns-clause-stays
 returns-clause-stays g c = g.met.H.Held.stays_on _ _ _ c.find_slot.ensures.stays c.remove-value.ensures.stays

@@ -7,8 +7,8 @@ use Rattle.ck_model.specs.declared.lack.Lack.{Lack}
 use Rattle.ck_stripe.specs.Tables.{power_in}
 use Rattle.ck_section.specs.Room.{GivesReason}
 use Rattle.ck_model.proofs.Identities.{identity_on}
-use Rattle.ck_section.proofs.RoomMade.{grown_none, grown_more, grows_for_room, stuck_in, refused_in}
-use Rattle.ck_section.proofs.Tables.{err_maps}
+use Rattle.ck_section.proofs.RoomMade.{grown_none, grown_more, grows_for_room, only_doubles, stuck_in, refused_in}
+use Rattle.ck_section.proofs.Tables.{err_maps, err_anyway}
 use Rattle.ck_section.proofs.room.make_room.Goals as goal
 
 pub loop-hash-init : goal.loop-hash-init
@@ -63,6 +63,12 @@ returns-in_err-grow-clause-refused g c =
     stuck.same (ap contents_of c.in_err-grow.ensures.same) stuck.table stuck.no_room stuck.no_path in
     let R : Lack → Type 0 = GivesReason (layout g.K.TableKey.hash c.args.s c.args.max) c.args.min_load old new (g.K.TableKey.name c.args.key.now) in
     err_maps c.from_residual.result _ R (λ why is. subst R (sym is) (said c.in_err-grow.field-0.0 c.in_err-grow.ensures.lack)) c.from_residual.ensures.1
+
+pub returns-in_err-grow-clause-left : goal.returns-in_err-grow-clause-left
+returns-in_err-grow-clause-left g c =
+    let stuck = c.loop-hash-test.ensures in
+    err_anyway c.from_residual.result _
+    (only_doubles g.K.TableKey.hash c.args.s c.args.max c.args.min_load (g.K.TableKey.name c.args.key.now) _ _ _ (g.H.Held.stripes c.grow.new.held) c.loop-hash.invariant.grown stuck.same stuck.power c.in_err-grow.ensures.same)
 
 pub returns-in_err-grow-clause-doubled : goal.returns-in_err-grow-clause-doubled
 returns-in_err-grow-clause-doubled g c =

@@ -1,6 +1,6 @@
 use Rattle.ck_model.specs.declared.history.Act.TheVariants.{Erase}
 use Rattle.ck_model.specs.declared.history.Reply.TheVariants.{Was}
-use Rattle.cuckoo_map.proofs.Sessions.{only_stripes, place_held, acted_locked, has_changed}
+use Rattle.cuckoo_map.proofs.Sessions.{only_stripes, place_held, acted_locked, has_changed, has_room_left}
 use Rattle.cuckoo_map.proofs.locked.LockedOn.erase.Goals as goal
 
 pub erase-requires : goal.erase-requires
@@ -13,6 +13,9 @@ invariant_of-self g c =
 
 pub returns : goal.returns
 returns g c =
-    let changed = has_changed c.self.invariant c.self.view_is c.key_place-place.result c.key_place-place.ensures.s (g.Q.Query.name c.args.key) c.erase.new.held
-    (only_stripes c.self.inside.whole c.erase.new.held c.erase.ensures.stays) in
-    changed Erase (Was c.erase.result) c.erase.ensures.rest c.erase.ensures.call
+    let kept = only_stripes c.self.inside.whole c.erase.new.held c.erase.ensures.stays in
+    record {
+      erased = has_changed c.self.invariant c.self.view_is c.key_place-place.result c.key_place-place.ensures.s (g.Q.Query.name c.args.key) c.erase.new.held kept Erase (Was c.erase.result) c.erase.ensures.rest c.erase.ensures.call;
+      room = has_room_left c.self.invariant c.self.view_is c.key_place-place.result c.key_place-place.ensures.s (g.Q.Query.name c.args.key) c.erase.new.held kept Erase (Was c.erase.result) c.erase.ensures.rest c.erase.ensures.call
+          c.erase.result c.erase.ensures.room;
+    }
