@@ -68,6 +68,10 @@ same_list [] (y ∷ ys) e f = absurd (omega arith)
 same_list (x ∷ xs) [] e f = absurd (omega arith)
 same_list (x ∷ xs) (y ∷ ys) e f = λ j. f 0 (omega arith) j ∷ same_list xs ys (omega arith) (λ i l. f (suc i) (omega arith)) j
 
+err_weaker : {A E : Type 0} (r : Result A E) {P Q : Type 0} → (P → Q) → OnErr r P → OnErr r Q
+err_weaker (Ok a) f p = tt
+err_weaker (Err e) f p = f p
+
 -- What a call does to a slice of all of a list it does to the list.
 pub through_slice : {X : Type 0} (P : List X → List X → Type 0) (lent old : List X) → lent ≡ old → (n : ℕ) (items new : List X) → n ≡ length new → P lent new → P old (take n (new ++ drop (length new) items))
 through_slice {X} P lent old is n items new long done =
@@ -326,10 +330,6 @@ module _ {V : Type 0} where
   -- a locked table whose number of buckets stayed has not grown
   pub grows_not : (hash : Name → ℕ) (q : Name) (l m : LockedState V) → locked_power m ≡ locked_power l → HasDoubledFor hash q l m
   grows_not hash q l m same power from below = absurd (omega arith)
-
-  err_weaker : {A E : Type 0} (r : Result A E) {P Q : Type 0} → (P → Q) → OnErr r P → OnErr r Q
-  err_weaker (Ok a) f p = tt
-  err_weaker (Err e) f p = f p
 
   -- whatever the lack, no displacement makes room
   stuck_by : (k : Layout) (min_load : ℕ) (hs : Stripes V) (q : Name) (lack : Lack) → Grounds k min_load hs q (reason_of_lack lack) → IsStuck k hs q

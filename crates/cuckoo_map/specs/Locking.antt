@@ -1,5 +1,5 @@
 -- The whole table under one caller.
-use Rattle.std.specs.Prelude.{◌≡◌, ◌↔◌, ℕ, ◌+◌, ◌-◌, ◌<◌, ◌≤◌, List, reverse, [], Some, Bool, true, false, Result, Ok, Err, OnOk, IfOk, IfErr}
+use Rattle.std.specs.Prelude.{◌≡◌, ◌↔◌, ℕ, ◌+◌, ◌-◌, ◌<◌, ◌≤◌, List, reverse, [], Some, Bool, true, false, Result, Ok, Err, OnOk, OnErr, IfOk, IfErr}
 use Rattle.std.specs.FinMap.{empty, entries, from_entries}
 use Rattle.std.specs.Borrow.{Bor}
 use Rattle.std.specs.Fn.{Mut}
