@@ -11,11 +11,13 @@ invariant_of-self g c =
     acted_locked c.self.invariant c.self.view_is c.key_place-place.result c.key_place-place.ensures.s (g.Q.Query.name c.args.key) c.erase.new.held
     (only_stripes c.self.inside.whole c.erase.new.held c.erase.ensures.stays) Erase (Was c.erase.result) c.erase.ensures.rest c.erase.ensures.call
 
-pub returns : goal.returns
-returns g c =
-    let kept = only_stripes c.self.inside.whole c.erase.new.held c.erase.ensures.stays in
-    record {
-      erased = has_changed c.self.invariant c.self.view_is c.key_place-place.result c.key_place-place.ensures.s (g.Q.Query.name c.args.key) c.erase.new.held kept Erase (Was c.erase.result) c.erase.ensures.rest c.erase.ensures.call;
-      room = has_room_left c.self.invariant c.self.view_is c.key_place-place.result c.key_place-place.ensures.s (g.Q.Query.name c.args.key) c.erase.new.held kept Erase (Was c.erase.result) c.erase.ensures.rest c.erase.ensures.call
-          c.erase.result c.erase.ensures.room;
-    }
+pub returns-clause-erased : goal.returns-clause-erased
+returns-clause-erased g c =
+    let changed = has_changed c.self.invariant c.self.view_is c.key_place-place.result c.key_place-place.ensures.s (g.Q.Query.name c.args.key) c.erase.new.held
+    (only_stripes c.self.inside.whole c.erase.new.held c.erase.ensures.stays) in
+    changed Erase (Was c.erase.result) c.erase.ensures.rest c.erase.ensures.call
+
+pub returns-clause-room : goal.returns-clause-room
+returns-clause-room g c =
+    has_room_left c.self.invariant c.self.view_is c.key_place-place.result c.key_place-place.ensures.s (g.Q.Query.name c.args.key) c.erase.new.held (only_stripes c.self.inside.whole c.erase.new.held c.erase.ensures.stays)
+    Erase (Was c.erase.result) c.erase.ensures.rest c.erase.ensures.call c.erase.result c.erase.ensures.room
