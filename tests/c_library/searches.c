@@ -12,11 +12,14 @@ enum { STRIPES = 4, SLOTS = 64 };
 static cuckoo_handle handle = CUCKOO_CLOSED_HANDLE;
 static cuckoo_locked locked = CUCKOO_NOT_LOCKED;
 
-__attribute__((noinline)) static int refused(uint64_t key) {
+int refused(uint64_t key);
+int refused_when_locked(uint64_t key);
+
+__attribute__((noinline)) int refused(uint64_t key) {
     return cuckoo_insert(&handle, key, 0) == CUCKOO_FULL;
 }
 
-__attribute__((noinline)) static int refused_when_locked(uint64_t key) {
+__attribute__((noinline)) int refused_when_locked(uint64_t key) {
     return cuckoo_locked_insert(&locked, key, 0) == CUCKOO_FULL;
 }
 

@@ -1,5 +1,5 @@
 -- What a step of each act makes of the map.
-use Rattle.std.proofs.Common.{◌≡◌, ◌≢◌, sym, ap, ◌∙◌, subst, cond, refl, Option, Some, None}
+use Rattle.std.proofs.Common.{◌≡◌, ◌≢◌, ◌⊎◌, inl, inr, sym, ap, ◌∙◌, subst, cond, refl, Option, Some, None}
 use mathlib.Core.Logic.{dite}
 use Rattle.std.specs.Cmp.Lexicographic.{nat_list_cmp_total}
 use Rattle.std.specs.FinMap.{get, insert, remove, get-insert, get-remove}
@@ -148,10 +148,10 @@ module _ {V : Type 0} where
   two_done v w v2 w2 (Some x) None o p a = absurd (done_two_apart v w v2 w2 a.0)
   two_done v w v2 w2 None c o p a = absurd (done_two_apart v w v2 w2 a.0)
 
-  two_absent : (b c o p : Option V) → AnswersTwo b c Absent o p → (o ≡ b) × (p ≡ c)
+  two_absent : (b c o p : Option V) → AnswersTwo b c Absent o p → ((b ≡ None) ⊎ (c ≡ None)) × (o ≡ b) × (p ≡ c)
   two_absent (Some x) (Some y) o p a = absurd (done_two_apart x y a.0 a.1 (sym a.2))
-  two_absent (Some x) None o p a = (a.1, a.2)
-  two_absent None c o p a = (a.1, a.2)
+  two_absent (Some x) None o p a = (inr refl, a.1, a.2)
+  two_absent None c o p a = (inl refl, a.1, a.2)
 
   -- maps that have both names bound alike, and the others as a third
   by_two : (m a b : Map V) (j k : Name) → get a j ≡ get b j → get a k ≡ get b k
@@ -172,4 +172,4 @@ module _ {V : Type 0} where
   pub changing_two_none : ChangesOfTwoKeep V
   changing_two_none m m2 j k st =
       let a = two_absent (get m j) (get m k) (get m2 j) (get m2 k) st.1 in
-      by_two m m2 m j k a.0 a.1 st.2 (λ q nj nk. refl)
+      (a.0, by_two m m2 m j k a.1 a.2 st.2 (λ q nj nk. refl))

@@ -12,9 +12,9 @@ use Rattle.ck_model.proofs.Histories.{leads_snoc}
 use Rattle.ck_core.proofs.Sums.{legal_sums}
 use Rattle.cuckoo_map.specs.Callers.{CallerState, Replies}
 use Rattle.ck_laws.specs.Sole.{IsSole, Maps, upserted}
-use Rattle.ck_laws.specs.Laws.{SoleRepliesAreSteps, SoleMapsStay, SoleFindsRead, SoleAssignsBind, SoleUpsertsBind, SoleErasesUnbind, StepsKeepTotals, SoleTransfersKeepTotals}
+use Rattle.ck_laws.specs.Laws.{SoleRepliesAreSteps, SoleMapsStay, SoleFindsRead, SoleAssignsBind, SoleUpsertsBind, SoleErasesUnbind, SoleChangesOfTwoBind, StepsKeepTotals, SoleTransfersKeepTotals}
 use Rattle.ck_laws.proofs.Replying.{after_reply}
-use Rattle.ck_laws.proofs.Acting.{finding, assigning, upserting_new, upserting_done, erasing}
+use Rattle.ck_laws.proofs.Acting.{finding, assigning, upserting_new, upserting_done, erasing, changing_two, changing_two_none}
 
 module _ {V : Type 0} where
   pub stepped : SoleRepliesAreSteps V
@@ -45,6 +45,11 @@ module _ {V : Type 0} where
 
   pub erased : SoleErasesUnbind V
   erased q c d o sole r = concluded (On q Erase) (Was o) c d sole r _ (λ m m2 st. erasing m m2 q o st)
+
+  pub changed_two : SoleChangesOfTwoBind V
+  changed_two j k f c d true sole r = concluded (ChangeTwo j k) (DoneTwo r.0 r.1 r.2 r.3) c d sole r.5 _ (λ m m2 st.
+      let x = changing_two m m2 j k r.0 r.1 r.2 r.3 st in (r.0, r.1, x.0, x.1, x.2 ∙ ap (λ (y : V × V). insert (insert m j y.0) k y.1) r.4))
+  changed_two j k f c d false sole r = concluded (ChangeTwo j k) Absent c d sole r _ (λ m m2 st. changing_two_none m m2 j k st)
 
 -- by the law of sums: a session behind the step shows the sum
 pub same_total : StepsKeepTotals

@@ -1,5 +1,5 @@
 -- What a program may conclude from the contracts of its calls.
-use Rattle.std.specs.Prelude.{◌≡◌, ◌≢◌, ℕ, ◌+◌, List, [], ◌∷◌, ◌++◌, Option, Some, None, Bool}
+use Rattle.std.specs.Prelude.{◌≡◌, ◌≢◌, ◌⊎◌, ℕ, ◌+◌, List, [], ◌∷◌, ◌++◌, Option, Some, None, Bool}
 use Rattle.std.specs.FinMap.{get, insert, remove, entries}
 use Rattle.ck_model.specs.declared.history.Act.TheVariants.{Find, Insert, Assign, Update, Change, Upsert, Erase}
 use Rattle.ck_model.specs.declared.history.Call.{Call}
@@ -13,7 +13,7 @@ use Rattle.ck_core.specs.Sums.{total, KeepsTotal}
 use Rattle.cuckoo_map.specs.Callers.{CallerState, Replies, RepliesOn}
 use Rattle.cuckoo_map.specs.Acts.{Finds, Assigns, Upserts, Erases, ChangesTwo}
 use Rattle.cuckoo_map.specs.Locking.{LockedState, start_of, map_of, EndsSession, IsSameSession}
-use Rattle.ck_laws.specs.Sole.{IsSole, Maps, upserted}
+use Rattle.ck_laws.specs.Sole.{IsSole, Maps, upserted, ChangesBoth}
 
 -- one of the parts has the entry
 abbrev pub IsOfPart : {V : Type 0} → List (ℕ × List (Entry V)) → Entry V → Type 0
@@ -76,9 +76,9 @@ module _ (V : Type 0) where
   abbrev pub ChangesOfTwoBind : Type 0
   ChangesOfTwoBind = (m m2 : Map V) (j k : Name) (v w v2 w2 : V) → Step m (ChangeTwo j k) (DoneTwo v w v2 w2) m2 → (get m j ≡ Some v) × (get m k ≡ Some w) × (m2 ≡ insert (insert m j v2) k w2)
 
-  -- one of two names that aren't both bound leaves the map
+  -- a change of two names that aren't both bound leaves the map
   abbrev pub ChangesOfTwoKeep : Type 0
-  ChangesOfTwoKeep = (m m2 : Map V) (j k : Name) → Step m (ChangeTwo j k) Absent m2 → m2 ≡ m
+  ChangesOfTwoKeep = (m m2 : Map V) (j k : Name) → Step m (ChangeTwo j k) Absent m2 → ((get m j ≡ None) ⊎ (get m k ≡ None)) × (m2 ≡ m)
 
   -- what was bound is found
   abbrev pub BoundIsFound : Type 0
@@ -119,6 +119,10 @@ module _ (V : Type 0) where
   -- its erasure
   abbrev pub SoleErasesUnbind : Type 0
   SoleErasesUnbind = (q : Name) (c d : CallerState V) (o : Option V) → IsSole c → Erases (RepliesOn q c d) o → Maps c d (λ m m2. (o ≡ get m q) × (m2 ≡ remove m q))
+
+  -- its change of two, by a closure that makes these of both values
+  abbrev pub SoleChangesOfTwoBind : Type 0
+  SoleChangesOfTwoBind = (j k : Name) (f : V → V → V × V) (c d : CallerState V) (bound : Bool) → IsSole c → ChangesTwo (λ v w r. r ≡ f v w) (Replies (ChangeTwo j k) c d) bound → Maps c d (ChangesBoth f j k bound)
 
   -- a session that ends leaves the map that the locked table has
   abbrev pub SessionsLeaveTheirMap : Type 0

@@ -1,3 +1,4 @@
 pub mod Sole
 pub mod Laws
 pub mod Examples
+pub mod Ledger

@@ -1,6 +1,7 @@
 -- A handle without others, and the plain map that a caller stands for.
-use Rattle.std.specs.Prelude.{◌≡◌, Option, Some, None}
-use Rattle.ck_model.specs.Promise.{Map, After}
+use Rattle.std.specs.Prelude.{◌≡◌, ◌⊎◌, Option, Some, None, Bool, true, false}
+use Rattle.std.specs.FinMap.{get, insert}
+use Rattle.ck_model.specs.Promise.{Name, Map, After}
 use Rattle.cuckoo_map.specs.Callers.{CallerState}
 
 module _ {V : Type 0} where
@@ -21,3 +22,8 @@ module _ {V : Type 0} where
   abbrev pub upserted : (V → V) → V → Option V → V
   upserted f u None = u
   upserted f u (Some v) = f v
+
+  -- both names are bound to what the function makes of their values, or not both were bound, and nothing changes
+  abbrev pub ChangesBoth : (V → V → V × V) → Name → Name → Bool → Map V → Map V → Type 0
+  ChangesBoth f j k true m m2 = (v w : V) × (get m j ≡ Some v) × (get m k ≡ Some w) × (m2 ≡ insert (insert m j (f v w).0) k (f v w).1)
+  ChangesBoth f j k false m m2 = ((get m j ≡ None) ⊎ (get m k ≡ None)) × (m2 ≡ m)

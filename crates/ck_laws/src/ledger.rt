@@ -6,7 +6,8 @@ ghost use Rattle.ck_model.specs.declared.history.Call.TheVariants.{ChangeTwo};
 ghost use Rattle.ck_core.specs.Sums.{total};
 ghost use Rattle.cuckoo_map.specs.Acts.{ChangesTwo};
 ghost use Rattle.cuckoo_map.specs.Callers.{IsSameCaller, Replies};
-ghost use Rattle.ck_laws.specs.Sole.{IsSole, HasMap, Maps};
+ghost use Rattle.ck_laws.specs.Ledger.{moved_of};
+ghost use Rattle.ck_laws.specs.Sole.{IsSole, HasMap, Maps, ChangesBoth};
 
 use cuckoo_map::{Busy, Fault, Handle, NumKey, Settings};
 use std::alloc::Global;
@@ -53,16 +54,19 @@ pub fn put(own: &mut Ledger, account: u64, value: u64) -> Result<Option<u64>, Fa
 /// What two accounts have afterwards: as much of the amount is moved as is there, and as there is
 /// room for.
 pub fn moved(amount: u64, from: u64, to: u64) -> (u64, u64)
-    ensures { result.0 + result.1 ≡ from + to }
+    ensures value { result ≡ moved_of amount from to }
+    ensures sum { result.0 + result.1 ≡ from + to }
 {
     let share = amount.min(from).min(u64::MAX - to);
     (from - share, to + share)
 }
 
-// What the two accounts had and have, if both are there: the sum stays.
+// Moves an amount, if both accounts are there, and says whether they are: the sum stays.
 fn change_two(own: &mut Ledger, from: u64, to: u64, amount: u64) -> Result<bool, Busy>
     requires { from ≢ to }
-    ensures answered { IfOk result (ChangesTwo (λ v w r. v + w ≡ r.0 + r.1)
+    ensures answered { IfOk result (ChangesTwo (λ v w r. r ≡ moved_of amount v w)
+        (Replies (ChangeTwo (from ∷ []) (to ∷ [])) own.old own.new)) }
+    ensures sum { IfOk result (ChangesTwo (λ v w r. v + w ≡ r.0 + r.1)
         (Replies (ChangeTwo (from ∷ []) (to ∷ [])) own.old own.new)) }
     ensures kept { OnOk result (own.new.client.settings ≡ own.old.client.settings) }
     ensures same { IsSameCaller own.old own.new }
@@ -73,11 +77,14 @@ fn change_two(own: &mut Ledger, from: u64, to: u64, amount: u64) -> Result<bool,
     })
 }
 
-/// Moves an amount, if both accounts are there: the sum of all values stays.
+/// Moves as much of the amount as it can, if both accounts are there, and says whether they are. The
+/// sum of all values stays.
 pub fn transfer(own: &mut Ledger, from: u64, to: u64, amount: u64) -> bool
     requires sole { IsSole own.old }
     requires different { from ≢ to }
     ensures sole { IsSole own.new }
+    ensures moved { Maps own.old own.new
+        (ChangesBoth (moved_of amount) (from ∷ []) (to ∷ []) result) }
     ensures sum { Maps own.old own.new (λ m m2. total (entries m2) ≡ total (entries m)) }
 {
     match change_two(own, from, to, amount) {

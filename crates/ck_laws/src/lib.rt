@@ -20,7 +20,7 @@ ghost use Rattle.ck_laws.specs.Laws.{RepliesAreSteps, RepliesFollowOthers};
 ghost use Rattle.ck_laws.specs.Laws.{FindsRead, InsertsBind, InsertsKeep, AssignsBind, UpdatesBind, UpdatesKeep};
 ghost use Rattle.ck_laws.specs.Laws.{ChangesBind, ChangesKeep, UpsertsBind, UpsertsChange, ErasesUnbind, ChangesOfTwoBind, ChangesOfTwoKeep};
 ghost use Rattle.ck_laws.specs.Laws.{BoundIsFound, UnboundIsGone, OthersStay, BeginningsAreOfAll};
-ghost use Rattle.ck_laws.specs.Laws.{SoleRepliesAreSteps, SoleMapsStay, SoleFindsRead, SoleAssignsBind, SoleUpsertsBind, SoleErasesUnbind};
+ghost use Rattle.ck_laws.specs.Laws.{SoleRepliesAreSteps, SoleMapsStay, SoleFindsRead, SoleAssignsBind, SoleUpsertsBind, SoleErasesUnbind, SoleChangesOfTwoBind};
 ghost use Rattle.ck_laws.specs.Laws.{StepsKeepTotals, SoleTransfersKeepTotals, SessionsLeaveTheirMap, SessionsKeepTheirStart, EntriesStandInParts};
 ghost use Rattle.ck_laws.specs.Examples.{a_transfer, a_renaming, from_nowhere, two_new, lost_change, found_erased, half_a_transfer, late_session, name_twice, miscounted};
 
@@ -73,6 +73,7 @@ pub fn law_of_sole_handles<V>()
     ensures assign { SoleAssignsBind V }
     ensures upsert { SoleUpsertsBind V }
     ensures erase { SoleErasesUnbind V }
+    ensures change_two { SoleChangesOfTwoBind V }
 {}
 
 /// A step that keeps the sum of the values that it changes keeps the sum of all values: so does a
