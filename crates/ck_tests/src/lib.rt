@@ -17,13 +17,15 @@ mod queries;
 #[cfg(test)]
 mod searches;
 
-// What is dropped and what is moved, and how often.
+// What is dropped, what is moved and what is put back.
 #[cfg(test)]
 mod drops;
 #[cfg(test)]
 mod lists;
 #[cfg(test)]
 mod moves;
+#[cfg(test)]
+mod put_back;
 
 // Threads.
 #[cfg(test)]
