@@ -58,7 +58,7 @@ use Rattle.ck_words.proofs.Seating.{length-numbers, number_at}
 use Rattle.ck_words.proofs.WholeTables.{lawful_held}
 use Rattle.cuckoo_map.specs.Refusals.{IsStripeIn}
 use Rattle.ck_refusal.specs.Faults.{why_of}
-use Rattle.cuckoo_map.specs.Locking.{LockedState, locked_of, map_of, locked_power, IsSameSession, IsLocked, HasLocked, HasActed, HasChanged, HasDoubledFor, Clears, Lists, KeepsMap, HasRoomFor, LacksRoom, SeeksRoom, Retains}
+use Rattle.cuckoo_map.specs.Locking.{LockedState, locked_of, map_of, locked_power, IsSameSession, IsLocked, HasLocked, HasActed, HasChanged, HasDoubledFor, Clears, Lists, KeepsMap, HasRoomFor, KeepsRoom, LacksRoom, SeeksRoom, Retains}
 use Rattle.cuckoo_map.proofs.Sizes.{renewed_same, has_all, few_of_each}
 use Rattle.cuckoo_map.proofs.Counted.{one_of_lawful}
 
@@ -302,7 +302,7 @@ module _ {V : Type 0} where
   -- The table is locked, as s shows it. A call was made on its stripes, and nothing else changed.
   module _ {hash : Name → ℕ} {w : WordsState} {p : PassState V} {s : LockedState V} (l : IsLocked hash w p) (is : locked_of w p ≡ s) (place : KeyPlace) (same : place.s ≡ s.caller.table.settings.s)
       (name : Name) (q : PassState V) (kept : q ≡ record p { stripes = q.stripes }) (act : Act V) (reply : Reply V) where
-    of_table : place.s ≡ w.settings.s
+    pub of_table : place.s ≡ w.settings.s
     of_table = same ∙ sym (ap (λ (x : LockedState V). x.caller.table.settings.s) is)
 
     -- it is still locked
@@ -400,7 +400,7 @@ module _ {V : Type 0} where
             record {
               kept = keeps_map s is;
               none = subst (λ (x : LockedState V). ¬ (HasRoomFor hash name x)) is (λ room. room (had_none only name stuck));
-              others = subst (λ (x : LockedState V). (r : Name) → HasRoomFor hash r x → HasRoomFor hash r (locked_of w q)) is (λ r room none. room (had_none only r none));
+              others = subst (λ (x : LockedState V). KeepsRoom hash x (locked_of w q)) is (λ r room none. room (had_none only r none));
               lack = lack;
               is = refl;
               grounds = subst (λ (x : LockedState V). Grounds (layout_of hash x.caller.table.settings) x.caller.table.settings.min_load (contents_of q.stripes) name (reason_of_lack lack)) is (grounds l.renewed.lawful);

@@ -126,11 +126,15 @@ module _ {V : Type 0} where
   abbrev pub HasRoomFor : (Name → ℕ) → Name → LockedState V → Type 0
   HasRoomFor hash q l = ¬ (HasNoRoom (layout_of hash l.caller.table.settings) (contents_of l.stripes) q)
 
-  -- From l to m the map stayed as it was, and each name that had room has it still. This one had none, and what all stripes contain at m gives the reason to refuse it.
+  -- from l to m each name that had room has it still
+  abbrev pub KeepsRoom : (Name → ℕ) → LockedState V → LockedState V → Type 0
+  KeepsRoom hash l m = (r : Name) → HasRoomFor hash r l → HasRoomFor hash r m
+
+  -- From l to m the map stayed as it was, and what had room has it still. This name had none, and what all stripes contain at m gives the reason to refuse it.
   pub record LacksRoom (hash : Name → ℕ) (q : Name) (why : Why) (l m : LockedState V) : Type 0 where
     pub kept : KeepsMap l m
     pub none : ¬ (HasRoomFor hash q l)
-    pub others : (r : Name) → HasRoomFor hash r l → HasRoomFor hash r m
+    pub others : KeepsRoom hash l m
     pub lack : Lack
     pub is : why ≡ why_of lack
     pub grounds : Grounds (layout_of hash l.caller.table.settings) l.caller.table.settings.min_load (contents_of m.stripes) q (reason_of_lack lack)

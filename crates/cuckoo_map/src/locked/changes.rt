@@ -2,7 +2,7 @@
 ghost use Rattle.std.specs.Prelude.{OnSome};
 ghost use Rattle.std.specs.Fn.{FnOnceReturnsAt};
 ghost use Rattle.ck_section.specs.Acts.{Updates, Modifies, Changes, Erases, ReplacesIf, TriesChange};
-ghost use Rattle.cuckoo_map.specs.Locking.{HasChanged, HasRoomFor};
+ghost use Rattle.cuckoo_map.specs.Locking.{HasChanged, HasRoomFor, KeepsRoom};
 
 use crate::locked::LockedOn;
 use crate::table_ref::TableRef;
@@ -41,19 +41,22 @@ impl<T: TableRef<K, V> + Drop, K: TableKey + Drop, V: Drop> LockedOn<T, K, V> {
         answer.ok()
     }
 
-    /// `Caller::erase`. The key has room then: put back before another insertion succeeds, it isn't
-    /// refused.
+    /// `Caller::erase`. The key has room then: put back next, or after erasures and insertions that
+    /// were refused, it isn't refused.
     ///
     /// ```
-    /// if let Some(value) = locked.erase(&NumKey(7)) {
-    ///     if let Err(refused) = locked.insert(NumKey(8), value) {
-    ///         let _ = locked.insert(NumKey(7), refused.value);
-    ///     }
+    /// if let Some(value) = locked.erase(&NumKey(7))
+    ///     && let Err(refused) = locked.insert(NumKey(8), value)
+    /// {
+    ///     let Ok(_) = locked.insert(NumKey(7), refused.value) else {
+    ///         unreachable!()
+    ///     };
     /// }
     /// ```
     pub fn erase<Q: Query<K>>(&mut self, key: Q) -> Option<V>
         ensures erased { Erases (HasChanged (Q.name key) self.old self.new) result }
         ensures room { OnSome result (HasRoomFor K.hash (Q.name key) self.new) }
+        ensures others { KeepsRoom K.hash self.old self.new }
     {
         let place = self.key_place(key);
         erase(&mut self.whole, place, key)
