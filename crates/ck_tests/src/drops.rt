@@ -1,6 +1,6 @@
 //! Each value and each closure is dropped once, whichever call takes it. No contract counts drops.
-use crate::fixtures::{APART, count, only, read};
-use cuckoo_map::{Handle, NumKey, Settings};
+use crate::fixtures::{APART, FOUR_BUCKETS, count, only, read};
+use cuckoo_map::{Handle, NumKey};
 use std::alloc::Global;
 use std::process::Abort;
 use std::sync::Arc;
@@ -33,17 +33,6 @@ impl Counted {
 
 type CountedHandle = Handle<NumKey, Counted>;
 
-/// A table of four buckets, which stays so, for one handle.
-const SETTINGS: Settings = Settings {
-    s: 2,
-    power: 2,
-    max: 2,
-    callers: 1,
-    turns: 1,
-    rounds: 4,
-    min_load: 5,
-};
-
 /// Binds eight keys in steps of `APART`, and says whether that could be done.
 fn bind_eight(rt: &impl Abort, handle: &mut CountedHandle, drops: &Drops) -> bool {
     (1..=8u64).all(|i| {
@@ -54,7 +43,7 @@ fn bind_eight(rt: &impl Abort, handle: &mut CountedHandle, drops: &Drops) -> boo
 
 /// A handle of a table that has room for these eight keys, and has bound them.
 fn handle_of(rt: &impl Abort, alloc: Global, drops: &Drops) -> Result<CountedHandle, Fail> {
-    let mut handle = only(rt, Handle::open(alloc, SETTINGS)?);
+    let mut handle = only(rt, Handle::open(alloc, FOUR_BUCKETS)?);
     let is_full = bind_eight(rt, &mut handle, drops);
     assert!(rt; is_full);
     Ok(handle)

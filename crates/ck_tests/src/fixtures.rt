@@ -7,6 +7,17 @@ use std::sync::atomic::{AtomicU64, Ordering};
 /// same two buckets.
 pub const APART: u64 = 282_574_488_338_432;
 
+/// Four stripes of a bucket each, for one handle. The table stays so.
+pub const FOUR_BUCKETS: Settings = Settings {
+    s: 2,
+    power: 2,
+    max: 2,
+    callers: 1,
+    turns: 1,
+    rounds: 4,
+    min_load: 5,
+};
+
 /// Four stripes of four buckets each, for so many handles.
 pub fn sixteen_buckets(callers: u32) -> Settings {
     Settings {

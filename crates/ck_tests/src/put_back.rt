@@ -1,19 +1,8 @@
 //! A key of a locked table is erased, and put back where another one has no room.
-use crate::fixtures::{APART, only};
-use cuckoo_map::{Handle, LockedHandle, NumKey, Settings};
+use crate::fixtures::{APART, FOUR_BUCKETS, only};
+use cuckoo_map::{Handle, LockedHandle, NumKey};
 use std::process::Abort;
 use std::test::Fail;
-
-/// A table of four buckets, which stays so, for one handle.
-const SETTINGS: Settings = Settings {
-    s: 2,
-    power: 2,
-    max: 2,
-    callers: 1,
-    turns: 1,
-    rounds: 4,
-    min_load: 5,
-};
 
 /// Gives the value of one key to another, if that has room, and says whether it has. Else the key
 /// keeps it: that it can be put back is proved.
@@ -46,7 +35,7 @@ fn give_to_ninth(handle: &mut LockedHandle<NumKey, u64>) -> [Option<u64>; 2] {
 
 #[test]
 fn put_back(rt: HostRuntime) -> Result<(), Fail> {
-    let handle = only(&rt, Handle::open(rt.alloc(), SETTINGS)?);
+    let handle = only(&rt, Handle::open(rt.alloc(), FOUR_BUCKETS)?);
     match handle.lock() {
         Ok(mut locked) => {
             let values = give_to_ninth(&mut locked);
