@@ -65,6 +65,11 @@ module _ {V : Type 0} where
     all = subst (λ (ss : List (StripeState V)). AreAllHeld set.s ss) (sym same) h.all;
   }
 
+  -- they were taken as p1, settled as p2, and are the same since
+  pub settled_all : {hash : Name → ℕ} {set : Settings} (p p1 p2 p3 : PassState V) → Stays p.view p1.view → IsWhole hash set p1 → IsTable set.s p1.stripes → p2.view ≡ p1.view → p2.stripes ≡ settled_stripes p1.stripes
+      → p3.view ≡ p2.view → p3.stripes ≡ p2.stripes → HoldsAll hash set p p3
+  settled_all p p1 p2 p3 stays whole table view settled still same = holds_alike_all p3 (taken_all p p1 p2 stays whole table view settled) still same
+
   module _ {hash : Name → ℕ} {set : Settings} {p p2 : PassState V} (h : HoldsAll hash set p p2) (qs : List Name) where
     -- the stripes of some names are among them
     pub holds_names : (stripes : StripeSet) → stripes.s ≡ set.s → list_of stripes ≡ counting 0 (2 ^ set.s) → HoldsNames hash set qs stripes p p2

@@ -69,9 +69,9 @@ module _ {V : Type 0} where
   pub same_pass : (p q : PassState V) → q.view ≡ p.view → q.table ≡ p.table → q.stripes ≡ p.stripes → q ≡ p
   same_pass p q view table stripes = λ i. record { table = table i; view = view i; stripes = stripes i }
 
-  -- so is the one that it is from then on
-  pub kept_pass : (p q z : PassState V) → q.view ≡ p.view → q.table ≡ p.table → q.stripes ≡ p.stripes → q ≡ z → p ≡ z
-  kept_pass p q z view table stripes there = sym (same_pass p q view table stripes) ∙ there
+  -- it is another one from then on, by which names are bound to what they were
+  pub bound_since : (names : List Name) (p q z : PassState V) → q.view ≡ p.view → q.table ≡ p.table → q.stripes ≡ p.stripes → q ≡ z → bound_to names z ≡ bound_to names p
+  bound_since names p q z view table same there = ap (bound_to names) (sym there ∙ same_pass p q view table same)
 
   -- The keys are held by q, with room for all of them where there was in k.
   pub record HoldsWithRoom (hash : Name → ℕ) (w : WordsState) (stripes : StripeSet) (names : List Name) (k : KeysState V) (q : PassState V) : Type 0 where
@@ -82,6 +82,10 @@ module _ {V : Type 0} where
     -- what their stripes contain is lawful, in as many stripes as the set is of
     pub lawful_at : {p : PassState V} → HoldsKeys hash w stripes names p → Lawful (layout hash stripes.s w.settings.max) (contents_of p.stripes)
     lawful_at {p} l = subst (λ (s : ℕ). Lawful (layout hash s w.settings.max) (contents_of p.stripes)) (sym l.of_table) l.lawful
+
+    -- such a pass holds the keys from then on
+    pub held_since : (p q z : PassState V) → q.view ≡ p.view → q.table ≡ p.table → q.stripes ≡ p.stripes → q ≡ z → HoldsKeys hash w stripes names p → HoldsKeys hash w stripes names z
+    held_since p q z view table same there = subst (λ (x : PassState V). HoldsKeys hash w stripes names x) (sym (same_pass p q view table same) ∙ there)
 
     -- keys whose stripes were just taken are held
     pub holds_keys : (p p2 : PassState V) → IsCaller w p → IsPassOf w p2 → AreDistinct names → HoldsNames hash w.settings names stripes p p2 → HoldsKeys hash w stripes names p2

@@ -17,7 +17,7 @@ use Rattle.ck_words.specs.Words.{WordsState}
 use Rattle.ck_refusal.specs.declared.refusal.Why.{Why}
 use Rattle.cuckoo_map.specs.RoomForKeys.{IsNotGrown}
 use Rattle.cuckoo_map.proofs.Calls.{s_of}
-use Rattle.cuckoo_map.proofs.GrowingForKeys.{HoldsAll, taken_all, holds_alike_all, holds_names, too_little, renewed_either, caller_home, grows_for_all, not_grown}
+use Rattle.cuckoo_map.proofs.GrowingForKeys.{HoldsAll, taken_all, settled_all, holds_names, too_little, renewed_either, caller_home, grows_for_all, not_grown}
 use Rattle.cuckoo_map.proofs.table.Table.lock_all_or_grow.Goals as goal
 
 -- the settings that code found are the table's
@@ -46,54 +46,42 @@ has_room_for_all-requires-clause-owned g c q i =
 -- there is room
 pub returns-then-has_room_for_all-clause-answered : goal.returns-then-has_room_for_all-clause-answered
 returns-then-has_room_for_all-clause-answered g c =
-    let t = c.in_ok-lock_all.ensures in
-    let asked = c.has_room_for_all.ensures in
-    let p2 = c.settle_all.new.held.pass.now in
     let p3 = c.has_room_for_all.new.held.pass.now in
-    let h : HoldsAll g.K.TableKey.hash c.args.self.now.settings c.args.pass.now p3 =
-    holds_alike_all p3 (taken_all c.args.pass.now c.lock_all.new.pass p2 t.stays t.whole t.table c.settle_all.ensures.stays.1 c.settle_all.ensures.settled) asked.stays.1 asked.same in
+    let h = settled_all c.args.pass.now c.lock_all.new.pass c.settle_all.new.held.pass.now p3 c.in_ok-lock_all.ensures.stays c.in_ok-lock_all.ensures.whole c.in_ok-lock_all.ensures.table
+    c.settle_all.ensures.stays.1 c.settle_all.ensures.settled c.has_room_for_all.ensures.stays.1 c.has_room_for_all.ensures.same in
     let set = c.args.self.now.settings in
     let names = map (λ k. g.K.TableKey.name k.now) c.args.keys.now in
     let there : p3 ≡ c.pass-1.given.0 = search rules in
     let of : c.all-all.result.s ≡ set.s = c.all-all.ensures.s ∙ ap (λ (x : WordsState). x.settings.s) c.self.view_is in
     let listed : list_of c.all-all.result ≡ counting 0 (2 ^ set.s) = c.all-all.ensures.all ∙ ap (λ (x : WordsState). counting 0 (2 ^ x.settings.s)) c.self.view_is in
     let room : HaveRoomForAll g.K.TableKey.hash set.s p3.stripes names =
-    subst (λ (x : ℕ × List (StripeState g.row.V.Denot)). HaveRoomForAll g.K.TableKey.hash x.0 x.1 names) (λ j. (s_of c.self.view_is c.settings-s.ensures.value j, sym asked.same j)) c.if-has_room_for_all.ensures.room in
+    subst (λ (x : ℕ × List (StripeState g.row.V.Denot)). HaveRoomForAll g.K.TableKey.hash x.0 x.1 names) (λ j. (s_of c.self.view_is c.settings-s.ensures.value j, sym c.has_room_for_all.ensures.same j)) c.if-has_room_for_all.ensures.room in
     rw (← there) (holds_names h names c.all-all.result of listed, room)
 
 -- there is none
 pub grow-grown-requires-clause-table : goal.grow-grown-requires-clause-table
 grow-grown-requires-clause-table g c =
-    let t = c.in_ok-lock_all.ensures in
-    let asked = c.has_room_for_all.ensures in
-    let p2 = c.settle_all.new.held.pass.now in
     let p3 = c.has_room_for_all.new.held.pass.now in
-    let h : HoldsAll g.K.TableKey.hash c.args.self.now.settings c.args.pass.now p3 =
-    holds_alike_all p3 (taken_all c.args.pass.now c.lock_all.new.pass p2 t.stays t.whole t.table c.settle_all.ensures.stays.1 c.settle_all.ensures.settled) asked.stays.1 asked.same in
+    let h = settled_all c.args.pass.now c.lock_all.new.pass c.settle_all.new.held.pass.now p3 c.in_ok-lock_all.ensures.stays c.in_ok-lock_all.ensures.whole c.in_ok-lock_all.ensures.table
+    c.settle_all.ensures.stays.1 c.settle_all.ensures.settled c.has_room_for_all.ensures.stays.1 c.has_room_for_all.ensures.same in
     rw (s_of c.self.view_is c.settings-s.ensures.value) h.all.table
 
 pub grow-grown-requires-clause-settled : goal.grow-grown-requires-clause-settled
 grow-grown-requires-clause-settled g c =
-    let t = c.in_ok-lock_all.ensures in
-    let asked = c.has_room_for_all.ensures in
-    let p2 = c.settle_all.new.held.pass.now in
     let p3 = c.has_room_for_all.new.held.pass.now in
-    let h : HoldsAll g.K.TableKey.hash c.args.self.now.settings c.args.pass.now p3 =
-    holds_alike_all p3 (taken_all c.args.pass.now c.lock_all.new.pass p2 t.stays t.whole t.table c.settle_all.ensures.stays.1 c.settle_all.ensures.settled) asked.stays.1 asked.same in
+    let h = settled_all c.args.pass.now c.lock_all.new.pass c.settle_all.new.held.pass.now p3 c.in_ok-lock_all.ensures.stays c.in_ok-lock_all.ensures.whole c.in_ok-lock_all.ensures.table
+    c.settle_all.ensures.stays.1 c.settle_all.ensures.settled c.has_room_for_all.ensures.stays.1 c.has_room_for_all.ensures.same in
     h.all.settled
 
 pub renew-requires-clause-renewed : goal.renew-requires-clause-renewed
 renew-requires-clause-renewed g c =
-    let t = c.in_ok-lock_all.ensures in
-    let asked = c.has_room_for_all.ensures in
-    let p2 = c.settle_all.new.held.pass.now in
     let p3 = c.has_room_for_all.new.held.pass.now in
-    let h : HoldsAll g.K.TableKey.hash c.args.self.now.settings c.args.pass.now p3 =
-    holds_alike_all p3 (taken_all c.args.pass.now c.lock_all.new.pass p2 t.stays t.whole t.table c.settle_all.ensures.stays.1 c.settle_all.ensures.settled) asked.stays.1 asked.same in
+    let h = settled_all c.args.pass.now c.lock_all.new.pass c.settle_all.new.held.pass.now p3 c.in_ok-lock_all.ensures.stays c.in_ok-lock_all.ensures.whole c.in_ok-lock_all.ensures.table
+    c.settle_all.ensures.stays.1 c.settle_all.ensures.settled c.has_room_for_all.ensures.stays.1 c.has_room_for_all.ensures.same in
     let p4 = c.grow-grown.new.held.pass.now in
     let grow = c.grow-grown.ensures in
     let set_is = found_set c.self.view_is c.settings-s.ensures.value in
-    renewed_either (grow.stays.5 ∙ asked.stays.5 ∙ c.settle_all.ensures.stays.5 ∙ c.self.view_is) h p4 grow.stays.1 c.grow-grown.result
+    renewed_either (grow.stays.5 ∙ c.has_room_for_all.ensures.stays.5 ∙ c.settle_all.ensures.stays.5 ∙ c.self.view_is) h p4 grow.stays.1 c.grow-grown.result
     (subst (λ (x : Settings). OnOk c.grow-grown.result (Grows g.K.TableKey.hash x.s p3.stripes p4.stripes)) set_is grow.grown)
     (subst (λ (x : Settings). OnOk c.grow-grown.result (IsLack x.max x.min_load p3.stripes Memory)) set_is grow.may)
     grow.same
@@ -101,21 +89,18 @@ renew-requires-clause-renewed g c =
 -- it grew
 pub returns-in-Ok-clause-answered : goal.returns-in-Ok-clause-answered
 returns-in-Ok-clause-answered g c =
-    let t = c.in_ok-lock_all.ensures in
-    let asked = c.has_room_for_all.ensures in
-    let p2 = c.settle_all.new.held.pass.now in
     let p3 = c.has_room_for_all.new.held.pass.now in
-    let h : HoldsAll g.K.TableKey.hash c.args.self.now.settings c.args.pass.now p3 =
-    holds_alike_all p3 (taken_all c.args.pass.now c.lock_all.new.pass p2 t.stays t.whole t.table c.settle_all.ensures.stays.1 c.settle_all.ensures.settled) asked.stays.1 asked.same in
+    let h = settled_all c.args.pass.now c.lock_all.new.pass c.settle_all.new.held.pass.now p3 c.in_ok-lock_all.ensures.stays c.in_ok-lock_all.ensures.whole c.in_ok-lock_all.ensures.table
+    c.settle_all.ensures.stays.1 c.settle_all.ensures.settled c.has_room_for_all.ensures.stays.1 c.has_room_for_all.ensures.same in
     let names = map (λ k. g.K.TableKey.name k.now) c.args.keys.now in
     let p4 = c.grow-grown.new.held.pass.now in
     let z = c.renew.new.self.pass.now in
     let grow = c.in-Ok.ensures in
     let r = c.renew.ensures in
-    let is = grow.stays.5 ∙ asked.stays.5 ∙ c.settle_all.ensures.stays.5 ∙ c.self.view_is in
+    let is = grow.stays.5 ∙ c.has_room_for_all.ensures.stays.5 ∙ c.settle_all.ensures.stays.5 ∙ c.self.view_is in
     let set_is = found_set c.self.view_is c.settings-s.ensures.value in
     let lack = subst (λ (x : Settings). IsLack x.max x.min_load p3.stripes Memory) set_is grow.may in
-    let little = too_little h names (s_of c.self.view_is c.settings-s.ensures.value) (none_alike names asked.same c.if-has_room_for_all.ensures.no_room) Memory lack in
+    let little = too_little h names (s_of c.self.view_is c.settings-s.ensures.value) (none_alike names c.has_room_for_all.ensures.same c.if-has_room_for_all.ensures.no_room) Memory lack in
     let grows = subst (λ (x : Settings). Grows g.K.TableKey.hash x.s p3.stripes p4.stripes) set_is grow.grown in
     let there : z ≡ c.pass-2-1.given.0 = search rules in
     rw (← there) (caller_home is h p4 grow.stays.1 z r.released c.requires.caller, grows_for_all is h p4 grow.stays.1 z r.released names little grows grow.power r.told r.doubled)
@@ -123,20 +108,17 @@ returns-in-Ok-clause-answered g c =
 -- or it didn't
 pub returns-in-Err-clause-refused : goal.returns-in-Err-clause-refused
 returns-in-Err-clause-refused g c =
-    let t = c.in_ok-lock_all.ensures in
-    let asked = c.has_room_for_all.ensures in
-    let p2 = c.settle_all.new.held.pass.now in
     let p3 = c.has_room_for_all.new.held.pass.now in
-    let h : HoldsAll g.K.TableKey.hash c.args.self.now.settings c.args.pass.now p3 =
-    holds_alike_all p3 (taken_all c.args.pass.now c.lock_all.new.pass p2 t.stays t.whole t.table c.settle_all.ensures.stays.1 c.settle_all.ensures.settled) asked.stays.1 asked.same in
+    let h = settled_all c.args.pass.now c.lock_all.new.pass c.settle_all.new.held.pass.now p3 c.in_ok-lock_all.ensures.stays c.in_ok-lock_all.ensures.whole c.in_ok-lock_all.ensures.table
+    c.settle_all.ensures.stays.1 c.settle_all.ensures.settled c.has_room_for_all.ensures.stays.1 c.has_room_for_all.ensures.same in
     let names = map (λ k. g.K.TableKey.name k.now) c.args.keys.now in
     let p4 = c.grow-grown.new.held.pass.now in
     let z = c.renew.new.self.pass.now in
     let grow = c.in-Err.ensures in
     let r = c.renew.ensures in
-    let is = grow.stays.5 ∙ asked.stays.5 ∙ c.settle_all.ensures.stays.5 ∙ c.self.view_is in
+    let is = grow.stays.5 ∙ c.has_room_for_all.ensures.stays.5 ∙ c.settle_all.ensures.stays.5 ∙ c.self.view_is in
     let lack = subst (λ (x : Settings). IsLack x.max x.min_load p3.stripes c.in-Err.lack) (found_set c.self.view_is c.settings-s.ensures.value) grow.lack in
-    let little = too_little h names (s_of c.self.view_is c.settings-s.ensures.value) (none_alike names asked.same c.if-has_room_for_all.ensures.no_room) c.in-Err.lack lack in
+    let little = too_little h names (s_of c.self.view_is c.settings-s.ensures.value) (none_alike names c.has_room_for_all.ensures.same c.if-has_room_for_all.ensures.no_room) c.in-Err.lack lack in
     let there : z ≡ c.pass-2-1.given.0 = search rules in
     rw (← there) (subst (λ (why : Why). IsNotGrown g.K.TableKey.hash c.args.self.now.settings names why c.args.pass.now z) (sym c.of.ensures)
     (not_grown is h p4 grow.stays.1 z r.released names grow.same r.doubled c.in-Err.lack little))

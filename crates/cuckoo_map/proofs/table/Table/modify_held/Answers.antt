@@ -1,9 +1,6 @@
-use Rattle.std.proofs.Common.{rules, ◌≡◌, ◌∙◌, ℕ, map, sym, ap, subst}
+use Rattle.std.proofs.Common.{rules, ◌∙◌, ℕ, map, sym, subst}
 use Rattle.ck_section.specs.Places.{HasBoth}
-use Rattle.ck_words.specs.Passes.{PassState}
-use Rattle.cuckoo_map.specs.SeveralKeys.{bound_to}
-use Rattle.cuckoo_map.specs.LockedKeys.{HoldsKeys}
-use Rattle.cuckoo_map.proofs.HeldKeys.{kept_pass, lawful_at}
+use Rattle.cuckoo_map.proofs.HeldKeys.{held_since, bound_since, lawful_at}
 use Rattle.cuckoo_map.proofs.table.Table.modify_held.Goals as goal
 
 pub find_bound-requires-clause-owned : goal.find_bound-requires-clause-owned
@@ -13,29 +10,25 @@ find_bound-requires-clause-owned g c q i =
 
 pub returns-then-not-find_bound-clause-held : goal.returns-then-not-find_bound-clause-held
 returns-then-not-find_bound-clause-held g c =
-    let there : c.find_bound.new.held.pass.now ≡ c.pass-1.given.0 = search rules in
     let e = c.find_bound.ensures in
-    subst (λ (p : PassState g.row.V.Denot). HoldsKeys g.K.TableKey.hash c.args.self.now c.args.stripes (map g.Q.Query.name c.args.keys.now) p) (kept_pass c.args.pass.now c.find_bound.new.held.pass.now _ e.stays.1 e.stays.2 e.same there) c.requires.held
+    held_since c.args.pass.now c.find_bound.new.held.pass.now c.pass-1.given.0 e.stays.1 e.stays.2 e.same (search rules) c.requires.held
 
 pub returns-then-not-find_bound-clause-modified : goal.returns-then-not-find_bound-clause-modified
 returns-then-not-find_bound-clause-modified g c =
-    let there : c.find_bound.new.held.pass.now ≡ c.pass-1.given.0 = search rules in
     let e = c.find_bound.ensures in
-    let kept : c.args.pass.now ≡ c.pass-1.given.0 = kept_pass c.args.pass.now c.find_bound.new.held.pass.now _ e.stays.1 e.stays.2 e.same there in
-    (c.if-not-find_bound.ensures.unbound c.args.self.now.settings.max (lawful_at c.requires.held), sym (ap (bound_to (map g.Q.Query.name c.args.keys.now)) kept))
+    let bound = bound_since (map g.Q.Query.name c.args.keys.now) c.args.pass.now c.find_bound.new.held.pass.now c.pass-1.given.0 e.stays.1 e.stays.2 e.same (search rules) in
+    (c.if-not-find_bound.ensures.unbound c.args.self.now.settings.max (lawful_at c.requires.held), bound)
 
 pub change_each-answer-requires-clause-held : goal.change_each-answer-requires-clause-held
 change_each-answer-requires-clause-held g c =
-    let there : c.find_bound.new.held.pass.now ≡ c.pass-1.given.0 = search rules in
     let e = c.find_bound.ensures in
-    subst (λ (p : PassState g.row.V.Denot). HoldsKeys g.K.TableKey.hash c.args.self.now c.args.stripes (map g.Q.Query.name c.args.keys.now) p) (kept_pass c.args.pass.now c.find_bound.new.held.pass.now _ e.stays.1 e.stays.2 e.same there) c.requires.held
+    held_since c.args.pass.now c.find_bound.new.held.pass.now c.pass-1.given.0 e.stays.1 e.stays.2 e.same (search rules) c.requires.held
 
 pub change_each-answer-requires-clause-bound : goal.change_each-answer-requires-clause-bound
 change_each-answer-requires-clause-bound g c =
-    let there : c.find_bound.new.held.pass.now ≡ c.pass-1.given.0 = search rules in
     let e = c.find_bound.ensures in
-    let kept : c.args.pass.now ≡ c.pass-1.given.0 = kept_pass c.args.pass.now c.find_bound.new.held.pass.now _ e.stays.1 e.stays.2 e.same there in
-    sym (ap (bound_to (map g.Q.Query.name c.args.keys.now)) kept) ∙ c.if-not-find_bound.ensures.bound c.args.self.now.settings.max (lawful_at c.requires.held)
+    let bound = bound_since (map g.Q.Query.name c.args.keys.now) c.args.pass.now c.find_bound.new.held.pass.now c.pass-1.given.0 e.stays.1 e.stays.2 e.same (search rules) in
+    bound ∙ c.if-not-find_bound.ensures.bound c.args.self.now.settings.max (lawful_at c.requires.held)
 
 pub returns-clause-modified : goal.returns-clause-modified
 returns-clause-modified g c =

@@ -1,9 +1,6 @@
-use Rattle.std.proofs.Common.{rules, ◌≡◌, ◌∙◌, ℕ, IsSome, All, map, inl, inr, sym, ap, subst}
+use Rattle.std.proofs.Common.{rules, ◌∙◌, ℕ, IsSome, All, map, inl, inr, sym, subst}
 use Rattle.ck_section.specs.Places.{HasBoth}
-use Rattle.ck_words.specs.Passes.{PassState}
-use Rattle.cuckoo_map.specs.SeveralKeys.{bound_to}
-use Rattle.cuckoo_map.specs.LockedKeys.{HoldsKeys}
-use Rattle.cuckoo_map.proofs.HeldKeys.{kept_pass, lawful_at}
+use Rattle.cuckoo_map.proofs.HeldKeys.{held_since, bound_since, lawful_at}
 use Rattle.cuckoo_map.proofs.UpdatedKeys.{all_some}
 use Rattle.cuckoo_map.proofs.table.Table.update_held.Goals as goal
 
@@ -14,30 +11,26 @@ find_each-requires-clause-owned g c q i =
 
 pub returns-in_default-clause-held : goal.returns-in_default-clause-held
 returns-in_default-clause-held g c =
-    let there : c.find_each.new.held.pass.now ≡ c.pass-1.given.0 = search rules in
     let e = c.find_each.ensures in
-    subst (λ (p : PassState g.row.V.Denot). HoldsKeys g.K.TableKey.hash c.args.self.now c.args.stripes (map g.Q.Query.name c.args.keys.now) p) (kept_pass c.args.pass.now c.find_each.new.held.pass.now _ e.stays.1 e.stays.2 e.same there) c.requires.held
+    held_since c.args.pass.now c.find_each.new.held.pass.now c.pass-1.given.0 e.stays.1 e.stays.2 e.same (search rules) c.requires.held
 
 pub returns-in_default-clause-updated : goal.returns-in_default-clause-updated
 returns-in_default-clause-updated g c =
-    let there : c.find_each.new.held.pass.now ≡ c.pass-1.given.0 = search rules in
     let e = c.find_each.ensures in
-    let kept : c.args.pass.now ≡ c.pass-1.given.0 = kept_pass c.args.pass.now c.find_each.new.held.pass.now _ e.stays.1 e.stays.2 e.same there in
+    let bound = bound_since (map g.Q.Query.name c.args.keys.now) c.args.pass.now c.find_each.new.held.pass.now c.pass-1.given.0 e.stays.1 e.stays.2 e.same (search rules) in
     let values = e.values c.args.self.now.settings.max (lawful_at c.requires.held) in
-    (sym values, inr (λ all. c.in_default.ensures.not_all (subst (All IsSome) (sym values) all), sym (ap (bound_to (map g.Q.Query.name c.args.keys.now)) kept)))
+    (sym values, inr (λ all. c.in_default.ensures.not_all (subst (All IsSome) (sym values) all), bound))
 
 pub change_each-requires-clause-held : goal.change_each-requires-clause-held
 change_each-requires-clause-held g c =
-    let there : c.find_each.new.held.pass.now ≡ c.pass-1.given.0 = search rules in
     let e = c.find_each.ensures in
-    subst (λ (p : PassState g.row.V.Denot). HoldsKeys g.K.TableKey.hash c.args.self.now c.args.stripes (map g.Q.Query.name c.args.keys.now) p) (kept_pass c.args.pass.now c.find_each.new.held.pass.now _ e.stays.1 e.stays.2 e.same there) c.requires.held
+    held_since c.args.pass.now c.find_each.new.held.pass.now c.pass-1.given.0 e.stays.1 e.stays.2 e.same (search rules) c.requires.held
 
 pub change_each-requires-clause-bound : goal.change_each-requires-clause-bound
 change_each-requires-clause-bound g c =
-    let there : c.find_each.new.held.pass.now ≡ c.pass-1.given.0 = search rules in
     let e = c.find_each.ensures in
-    let kept : c.args.pass.now ≡ c.pass-1.given.0 = kept_pass c.args.pass.now c.find_each.new.held.pass.now _ e.stays.1 e.stays.2 e.same there in
-    sym (ap (bound_to (map g.Q.Query.name c.args.keys.now)) kept) ∙ (sym (e.values c.args.self.now.settings.max (lawful_at c.requires.held)) ∙ c.in-Some.ensures.all)
+    let bound = bound_since (map g.Q.Query.name c.args.keys.now) c.args.pass.now c.find_each.new.held.pass.now c.pass-1.given.0 e.stays.1 e.stays.2 e.same (search rules) in
+    bound ∙ (sym (e.values c.args.self.now.settings.max (lawful_at c.requires.held)) ∙ c.in-Some.ensures.all)
 
 pub returns-clause-updated : goal.returns-clause-updated
 returns-clause-updated g c =
