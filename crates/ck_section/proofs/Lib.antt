@@ -23,6 +23,7 @@ pub mod Owned
 pub mod Cleared
 pub mod Listed
 pub mod Retained
+pub mod KeptFree
 pub mod KeptOthers
 pub mod RoomForAll
 pub mod RoomTested

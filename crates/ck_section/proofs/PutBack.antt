@@ -1,5 +1,5 @@
 -- An entry is taken out of its slot, and put back with another value.
-use Rattle.std.proofs.Common.{◌≡◌, ◌<◌, inl, ℕ, List, Option, Some, None, Bool, false, Result, Ok, Err, MatchResult, refl, sym, ◌∙◌, ap, subst}
+use Rattle.std.proofs.Common.{◌≡◌, ◌<◌, inl, ℕ, List, Option, Some, None, is_some, Bool, false, Result, Ok, Err, MatchResult, refl, sym, ◌∙◌, ap, subst}
 use Rattle.std.proofs.lemmas.Option.{some_pair_parts}
 use Rattle.ck_model.specs.Arithmetic.{partial_of}
 use Rattle.ck_model.specs.declared.history.Act.{Act}
@@ -17,7 +17,7 @@ use Rattle.ck_stripe.specs.Stripes.{stripe_at, contents_of, IsInReach}
 use Rattle.ck_section.specs.Places.{IsPlaceOf, IsSlotOf}
 use Rattle.ck_stripe.specs.HeldSlots.{slot_in}
 use Rattle.ck_section.specs.Entries.{IsOccupied}
-use Rattle.ck_section.specs.Calls.{ChangesContents}
+use Rattle.ck_section.specs.Calls.{KeepsFree, ChangesContents}
 use Rattle.ck_section.specs.Acts.{TriesUpsert}
 use Rattle.ck_section.specs.RoomForAll.{KeepsOthers}
 use Rattle.ck_section.proofs.Found.{owns, changes_on}
@@ -25,6 +25,7 @@ use Rattle.ck_section.proofs.Decided.{IsCallOn, freed, s_at}
 use Rattle.ck_section.proofs.Rebinding.{Rebinding, keeps_s, keeps_reach, keeps_slot, removing, placing}
 use Rattle.ck_model.proofs.Identities.{power_on}
 use Rattle.ck_section.proofs.Rebound.{taken, given, changed_slot}
+use Rattle.ck_section.proofs.KeptFree.{set_free_twice}
 use Rattle.ck_section.proofs.KeptOthers.{free_where, free_with, set_keeps, keeps_on}
 
 -- The slot has the name in stripes that stay as they are while it is looked for; then its entry is taken.
@@ -81,6 +82,10 @@ module _ {V : Type 0} (hash : Name → ℕ) (stripes : List (StripeState V)) (q 
 
     pub put_back_keeps : KeepsOthers q stripes two
     put_back_keeps = subst (λ (l : List (StripeState V)). KeepsOthers q stripes l) (sym from_two) back_keeps
+
+    pub put_back_free : KeepsFree stripes two
+    put_back_free = subst (λ (l : List (StripeState V)). KeepsFree stripes l) (sym from_two)
+        (set_free_twice stripes at None (Some (q, w)) _ _ here.slot.reach.inside still_reach.inside (ap is_some entry_taken))
 
     module _ (act : Act V) (reply : Reply V) (answers : Answers act (Some v) reply (Some w)) where
       module _ (max : ℕ) (lawful : Lawful (layout hash place.s max) (contents_of stripes)) where

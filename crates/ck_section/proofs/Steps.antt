@@ -16,11 +16,12 @@ use Rattle.ck_stripe.specs.Stripes.{stripe_at, len_at, IsInReach}
 use Rattle.ck_section.specs.Places.{IsPlaceOf, IsNowhere, AreFull}
 use Rattle.ck_stripe.specs.HeldSlots.{slot_in, set_slot}
 use Rattle.ck_section.specs.Entries.{IsOccupied, IsVacant, IsEntryOf}
-use Rattle.ck_section.specs.Calls.{IsWithRoom, IsWithoutRoom, ChangesContents}
+use Rattle.ck_section.specs.Calls.{IsWithRoom, IsWithoutRoom, KeepsFree, ChangesContents}
 use Rattle.ck_section.specs.RoomForAll.{KeepsOthers}
 use Rattle.ck_section.proofs.Found.{no_room, has_room, bound_room, set_changes, changes_none, changes_on}
 use Rattle.ck_section.proofs.Decided.{IsCallOn, s_at, freed, keeps_unbound, keeps_bound, placed, removed, replaced}
 use Rattle.ck_section.proofs.Rebinding.{keeps_s, keeps_slot}
+use Rattle.ck_section.proofs.KeptFree.{slot_free}
 use Rattle.ck_section.proofs.KeptOthers.{free_where, free_with, slot_keeps}
 
 -- a fact that holds anyway
@@ -146,6 +147,10 @@ module _ {V : Type 0} where
       pub took_keeps : (n : ℕ) (new : List (StripeState V)) → new ≡ set_slot cur at None n → KeepsOthers q stripes new
       took_keeps n new = slot_keeps q stripes cur new at None n same here.slot.reach.inside (free_with q _ here.found.0 here.found.1) tt
 
+      -- and the free slots free
+      pub left_free : (x : Slot V) (n : ℕ) (new : List (StripeState V)) → new ≡ set_slot cur at x n → KeepsFree stripes new
+      left_free x n new = slot_free stripes cur new at x n same here.slot.reach.inside (ap is_some here.found.1)
+
       -- the slot of an entry that is taken out is room for the name
       pub took_room : (n : ℕ) (new : List (StripeState V)) → new ≡ set_slot cur at None n → IsWithRoom hash place.s new q
       took_room n new e = subst (λ (l : List (StripeState V)). IsWithRoom hash place.s l q) (sym (e ∙ ap (λ (l : List (StripeState V)). set_slot l at None n) same))
@@ -155,22 +160,23 @@ module _ {V : Type 0} where
       -- a call that puts a value in place of the old one, which it gives
       pub swapped : (act : Act V) (w r : V) (new : List (StripeState V)) → ((v : V) → Answers act (Some v) (Was (Some v)) (Some w))
           → ((n : Name) (v : V) → slot_in cur at ≡ Some (n, v) → (r ≡ v) × (new ≡ set_slot cur at (Some (n, w)) (len_at cur at.index)))
-          → IsCallOn hash place.s stripes q act (Was (Some r)) new × ChangesContents stripes new × KeepsOthers q stripes new
+          → IsCallOn hash place.s stripes q act (Was (Some r)) new × ChangesContents stripes new × KeepsOthers q stripes new × KeepsFree stripes new
       swapped act w r new answers content =
           let z = content q here.found.0 found_in in (
             wrote act (Was (Some r)) w new (subst (λ (v : V). Answers act (Some here.found.0) (Was (Some v)) (Some w)) (sym z.0) (answers here.found.0)) z.1,
             slot_changes stripes cur new at _ _ same here.slot.reach z.1,
             wrote_keeps w _ new z.1,
+            left_free _ _ new z.1,
           )
 
       -- a call that puts in place of the old value what a closure makes of it
       pub remade : (post : V → V → Type 0) (act : Act V) (new : List (StripeState V)) → ((v w : V) → Answers act (Some v) (Done v w) (Some w))
           → ((n : Name) (v : V) → slot_in cur at ≡ Some (n, v) → (w : V) × post v w × (new ≡ set_slot cur at (Some (n, w)) (len_at cur at.index)))
-          → ((v w : V) × post v w × IsCallOn hash place.s stripes q act (Done v w) new) × ChangesContents stripes new × KeepsOthers q stripes new
+          → ((v w : V) × post v w × IsCallOn hash place.s stripes q act (Done v w) new) × ChangesContents stripes new × KeepsOthers q stripes new × KeepsFree stripes new
       remade post act new answers content =
           let v = here.found.0 in
           let z = content q v found_in in
-          ((v, z.0, z.1, wrote act (Done v z.0) z.0 new (answers v z.0) z.2), slot_changes stripes cur new at _ _ same here.slot.reach z.2, wrote_keeps z.0 _ new z.2)
+          ((v, z.0, z.1, wrote act (Done v z.0) z.0 new (answers v z.0) z.2), slot_changes stripes cur new at _ _ same here.slot.reach z.2, wrote_keeps z.0 _ new z.2, left_free _ _ new z.2)
 
       pub took : (act : Act V) (reply : V → Reply V) (n : Name) (v : V) (new : List (StripeState V)) → ((w : V) → Answers act (Some w) (reply w) None)
           → slot_in cur at ≡ Some (n, v) → new ≡ set_slot cur at None ((stripe_at cur at.index).content.ledger - 1) → IsCallOn hash place.s stripes q act (reply v) new

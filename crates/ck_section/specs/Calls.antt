@@ -1,15 +1,16 @@
 -- What a call on held stripes does to them.
-use Rattle.std.specs.Prelude.{◌≡◌, ℕ, ◌<◌, List, length}
+use Rattle.std.specs.Prelude.{◌≡◌, ℕ, ◌<◌, List, None, length}
 use Rattle.ck_model.specs.declared.history.Act.{Act}
 use Rattle.ck_model.specs.declared.history.Call.TheVariants.{On}
 use Rattle.ck_model.specs.declared.history.Reply.{Reply}
 use Rattle.ck_model.specs.Promise.{Name}
+use Rattle.ck_model.specs.Slots.{slot_at}
 use Rattle.ck_model.specs.Contents.{layout, Lawful}
 use Rattle.ck_model.specs.Sections.{Section}
 use Rattle.ck_model.specs.Paths.{HasNoRoom}
 use Rattle.ck_stripe.specs.Stripe.{StripeState}
 use Rattle.ck_section.specs.declared.place.KeyPlace.{KeyPlace}
-use Rattle.ck_stripe.specs.Stripes.{stripe_at, contents_of}
+use Rattle.ck_stripe.specs.Stripes.{stripe_at, bucket_at, contents_of}
 
 -- The stripes of a table of 2^s that a call held, before and after it, where names have these hashes.
 pub record Effect (V : Type 0) : Type 0 where
@@ -34,6 +35,10 @@ module _ {V : Type 0} where
   -- In lawful stripes the name is bound or one of its buckets has a free slot.
   abbrev pub IsWithRoom : (Name → ℕ) → ℕ → List (StripeState V) → Name → Type 0
   IsWithRoom hash s stripes q = (max : ℕ) → Lawful (layout hash s max) (contents_of stripes) → ¬ (HasNoRoom (layout hash s max) (contents_of stripes) q)
+
+  -- each slot that was free is free
+  abbrev pub KeepsFree : List (StripeState V) → List (StripeState V) → Type 0
+  KeepsFree old new = (i b slot : ℕ) → slot_at (bucket_at old i b) slot ≡ None → slot_at (bucket_at new i b) slot ≡ None
 
   -- nothing but contents differs, and the powers stay
   pub record ChangesContents (old new : List (StripeState V)) : Type 0 where

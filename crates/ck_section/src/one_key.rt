@@ -10,7 +10,7 @@ ghost use Rattle.ck_model.specs.declared.history.Reply.TheVariants.{Was, Done, A
 ghost use Rattle.ck_model.specs.Promise.{Answers};
 ghost use Rattle.ck_section.specs.Places.{IsPlaceOf};
 ghost use Rattle.ck_section.specs.Entries.{IsOccupied, IsVacant};
-ghost use Rattle.ck_section.specs.Calls.{effect, IsCall, IsWithRoom, ChangesContents};
+ghost use Rattle.ck_section.specs.Calls.{effect, IsCall, IsWithRoom, KeepsFree, ChangesContents};
 ghost use Rattle.ck_section.specs.Acts.{Updates, Erases, Changes};
 ghost use Rattle.ck_section.specs.RoomForAll.{KeepsOthers};
 
@@ -61,6 +61,7 @@ pub fn update<K: TableKey + Drop, V: Drop, Q: Query<K>, H: Held<Stripe<K, V>>>(
     ensures same { IfNone result (H.stripes held.new ≡ H.stripes held.old) }
     ensures rest { ChangesContents (H.stripes held.old) (H.stripes held.new) }
     ensures others { KeepsOthers (Q.name key) (H.stripes held.old) (H.stripes held.new) }
+    ensures free { KeepsFree (H.stripes held.old) (H.stripes held.new) }
     ensures stays { H.stays held.old held.new }
 {
     let at = find_slot(held, place, key)?;
@@ -80,6 +81,7 @@ pub fn erase<K: TableKey + Drop, V: Drop, Q: Query<K>, H: Held<Stripe<K, V>>>(
     ensures same { IfNone result (H.stripes held.new ≡ H.stripes held.old) }
     ensures rest { ChangesContents (H.stripes held.old) (H.stripes held.new) }
     ensures others { KeepsOthers (Q.name key) (H.stripes held.old) (H.stripes held.new) }
+    ensures free { KeepsFree (H.stripes held.old) (H.stripes held.new) }
     ensures room { OnSome result (IsWithRoom K.hash place.s (H.stripes held.new) (Q.name key)) }
     ensures stays { H.stays held.old held.new }
 {
@@ -138,6 +140,7 @@ where
     ensures same { OnFalse result (H.stripes held.new ≡ H.stripes held.old) }
     ensures rest { ChangesContents (H.stripes held.old) (H.stripes held.new) }
     ensures others { KeepsOthers (Q.name key) (H.stripes held.old) (H.stripes held.new) }
+    ensures free { KeepsFree (H.stripes held.old) (H.stripes held.new) }
     ensures stays { H.stays held.old held.new }
 {
     let Some(at) = find_slot(held, place, key) else {
@@ -172,6 +175,7 @@ pub fn replace_if<
         (λ replaced. OnFalse replaced (H.stripes held.new ≡ H.stripes held.old))
         (λ _. H.stripes held.new ≡ H.stripes held.old) }
     ensures rest { ChangesContents (H.stripes held.old) (H.stripes held.new) }
+    ensures free { KeepsFree (H.stripes held.old) (H.stripes held.new) }
     ensures stays { H.stays held.old held.new }
 {
     let at = match find_slot(held, place, key) {
@@ -208,6 +212,7 @@ pub fn modify<
     ensures same { OnErr result (H.stripes held.new ≡ H.stripes held.old) }
     ensures rest { ChangesContents (H.stripes held.old) (H.stripes held.new) }
     ensures others { KeepsOthers (Q.name key) (H.stripes held.old) (H.stripes held.new) }
+    ensures free { KeepsFree (H.stripes held.old) (H.stripes held.new) }
     ensures stays { H.stays held.old held.new }
 {
     let at = match find_slot(held, place, key) {
@@ -256,6 +261,7 @@ pub(crate) fn modify_entry<
         → IsCall (effect K.hash H.stripes place held.old held.new) (Q.name _key) act reply) }
     ensures rest { ChangesContents (H.stripes held.old) (H.stripes held.new) }
     ensures others { KeepsOthers (Q.name _key) (H.stripes held.old) (H.stripes held.new) }
+    ensures free { KeepsFree (H.stripes held.old) (H.stripes held.new) }
     ensures stays { H.stays held.old held.new }
 {
     let (own, old) = one_stripe::remove(held, at);

@@ -324,8 +324,10 @@ module _ {V : Type 0} where
     pub has_room_left : ChangesContents p.stripes q.stripes → IsCallOn hash place.s p.stripes name act reply q.stripes → {A : Type 0} (o : Option A) → OnSome o (IsWithRoom hash place.s q.stripes name)
         → OnSome o (HasRoomFor hash name (locked_of w q))
     has_room_left changes call None room = tt
-    has_room_left changes call (Some a) room = subst (λ n. ¬ (HasNoRoom (layout hash n w.settings.max) (contents_of q.stripes) name)) of_table
-        (room w.settings.max (subst (λ n. Lawful (layout hash n w.settings.max) (contents_of q.stripes)) (sym of_table) (acted_locked changes call).renewed.lawful))
+    has_room_left changes call (Some a) room = record {
+      is = subst (λ n. ¬ (HasNoRoom (layout hash n w.settings.max) (contents_of q.stripes) name)) of_table
+          (room w.settings.max (subst (λ n. Lawful (layout hash n w.settings.max) (contents_of q.stripes)) (sym of_table) (acted_locked changes call).renewed.lawful));
+    }
 
   -- a locked table whose number of buckets stayed has not grown
   pub grows_not : (hash : Name → ℕ) (q : Name) (l m : LockedState V) → locked_power m ≡ locked_power l → HasDoubledFor hash q l m
@@ -399,8 +401,8 @@ module _ {V : Type 0} where
             let stuck : HasNoRoom k (contents_of q.stripes) name = stuck_full k (contents_of q.stripes) name (stuck_by k w.settings.min_load (contents_of q.stripes) name lack (grounds l.renewed.lawful)) in
             record {
               kept = keeps_map s is;
-              none = subst (λ (x : LockedState V). ¬ (HasRoomFor hash name x)) is (λ room. room (had_none only name stuck));
-              others = subst (λ (x : LockedState V). KeepsRoom hash x (locked_of w q)) is (λ r room none. room (had_none only r none));
+              none = subst (λ (x : LockedState V). ¬ (HasRoomFor hash name x)) is (λ room. room.is (had_none only name stuck));
+              others = subst (λ (x : LockedState V). KeepsRoom hash x (locked_of w q)) is (λ r room. record { is = λ none. room.is (had_none only r none) });
               lack = lack;
               is = refl;
               grounds = subst (λ (x : LockedState V). Grounds (layout_of hash x.caller.table.settings) x.caller.table.settings.min_load (contents_of q.stripes) name (reason_of_lack lack)) is (grounds l.renewed.lawful);

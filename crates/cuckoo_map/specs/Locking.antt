@@ -123,8 +123,8 @@ module _ {V : Type 0} where
     pub same : map_of m ≡ map_of l
 
   -- The name is bound or one of its buckets has a free slot, so an insertion of it isn't refused.
-  abbrev pub HasRoomFor : (Name → ℕ) → Name → LockedState V → Type 0
-  HasRoomFor hash q l = ¬ (HasNoRoom (layout_of hash l.caller.table.settings) (contents_of l.stripes) q)
+  pub record HasRoomFor (hash : Name → ℕ) (q : Name) (l : LockedState V) : Type 0 where
+    pub is : ¬ (HasNoRoom (layout_of hash l.caller.table.settings) (contents_of l.stripes) q)
 
   -- from l to m each name that had room has it still
   abbrev pub KeepsRoom : (Name → ℕ) → LockedState V → LockedState V → Type 0

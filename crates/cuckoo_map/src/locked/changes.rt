@@ -12,7 +12,8 @@ use ck_section::{erase, modify, replace_if, update, update_fn, value_and_outcome
 impl<T: TableRef<K, V> + Drop, K: TableKey + Drop, V: Drop> LockedOn<T, K, V> {
     /// `Caller::update`, which is never refused.
     pub fn update<Q: Query<K>>(&mut self, key: Q, value: V) -> Option<V>
-        ensures { Updates value (HasChanged (Q.name key) self.old self.new) result }
+        ensures updated { Updates value (HasChanged (Q.name key) self.old self.new) result }
+        ensures others { KeepsRoom K.hash self.old self.new }
     {
         let place = self.key_place(key);
         update(&mut self.whole, place, key, value)
@@ -21,7 +22,8 @@ impl<T: TableRef<K, V> + Drop, K: TableKey + Drop, V: Drop> LockedOn<T, K, V> {
     /// `Caller::update_fn`.
     pub fn update_fn<Q: Query<K>, F: FnOnce(V) -> V + Drop>(&mut self, key: Q, f: F) -> bool
         requires call { F.IsAlwaysCallable f }
-        ensures { Changes (F.post f) (HasChanged (Q.name key) self.old self.new) result }
+        ensures changed { Changes (F.post f) (HasChanged (Q.name key) self.old self.new) result }
+        ensures others { KeepsRoom K.hash self.old self.new }
     {
         let place = self.key_place(key);
         update_fn(&mut self.whole, place, key, f)
@@ -34,15 +36,16 @@ impl<T: TableRef<K, V> + Drop, K: TableKey + Drop, V: Drop> LockedOn<T, K, V> {
         f: F,
     ) -> Option<R>
         requires call { F.IsAlwaysCallable f }
-        ensures { Modifies (F.post f) (HasChanged (Q.name key) self.old self.new) result }
+        ensures modified { Modifies (F.post f) (HasChanged (Q.name key) self.old self.new) result }
+        ensures others { KeepsRoom K.hash self.old self.new }
     {
         let place = self.key_place(key);
         let answer = modify(&mut self.whole, place, key, f);
         answer.ok()
     }
 
-    /// `Caller::erase`. The key has room then: put back next, or after erasures and insertions that
-    /// were refused, it isn't refused.
+    /// `Caller::erase`. The key has room then: put back next, or after other erasures, changes of
+    /// bound keys and refused insertions, it isn't refused.
     ///
     /// ```
     /// if let Some(value) = locked.erase(&NumKey(7))
@@ -69,8 +72,9 @@ impl<T: TableRef<K, V> + Drop, K: TableKey + Drop, V: Drop> LockedOn<T, K, V> {
         f: F,
     ) -> Option<bool>
         requires call { F.IsAlwaysCallable f }
-        ensures { ReplacesIf (FnOnceReturnsAt F.FnOnce f)
+        ensures replaced { ReplacesIf (FnOnceReturnsAt F.FnOnce f)
             (HasChanged (Q.name key) self.old self.new) result }
+        ensures others { KeepsRoom K.hash self.old self.new }
     {
         let place = self.key_place(key);
         let replaced = replace_if(&mut self.whole, place, key, f);
@@ -84,7 +88,8 @@ impl<T: TableRef<K, V> + Drop, K: TableKey + Drop, V: Drop> LockedOn<T, K, V> {
         f: F,
     ) -> Option<Result<(), E>>
         requires call { F.IsAlwaysCallable f }
-        ensures { TriesChange (F.post f) (HasChanged (Q.name key) self.old self.new) result }
+        ensures changed { TriesChange (F.post f) (HasChanged (Q.name key) self.old self.new) result }
+        ensures others { KeepsRoom K.hash self.old self.new }
     {
         self.modify(key, |value: V| value_and_outcome(f(value)))
     }

@@ -1,7 +1,8 @@
 use Rattle.std.proofs.Common.{refl, None, Some}
 use Rattle.ck_model.specs.declared.history.Act.TheVariants.{Erase}
 use Rattle.ck_model.specs.declared.history.Reply.TheVariants.{Was}
-use Rattle.ck_section.proofs.Steps.{replied_none, lacked, took, took_keeps, took_room, unchanged, ready, slot_changes}
+use Rattle.ck_section.proofs.Steps.{replied_none, lacked, took, took_keeps, took_room, left_free, unchanged, ready, slot_changes}
+use Rattle.ck_section.proofs.KeptFree.{free_same}
 use Rattle.ck_section.proofs.KeptOthers.{keeps_same}
 use Rattle.ck_section.proofs.one_key.erase.Goals as goal
 
@@ -16,6 +17,9 @@ returns-in_err-at-clause-rest g c = unchanged _ _ c.find_slot.ensures.same
 
 pub returns-in_err-at-clause-others : goal.returns-in_err-at-clause-others
 returns-in_err-at-clause-others g c = keeps_same _ _ _ c.find_slot.ensures.same
+
+pub returns-in_err-at-clause-free : goal.returns-in_err-at-clause-free
+returns-in_err-at-clause-free g c = free_same _ _ c.find_slot.ensures.same
 
 pub returns-in_err-at-clause-stays : goal.returns-in_err-at-clause-stays
 returns-in_err-at-clause-stays g c = c.find_slot.ensures.stays
@@ -32,6 +36,9 @@ returns-clause-rest g c = slot_changes _ _ _ c.in_ok-at.at _ _ c.find_slot.ensur
 
 pub returns-clause-others : goal.returns-clause-others
 returns-clause-others g c = took_keeps _ _ _ _ c.requires _ c.find_slot.ensures.same c.in_ok-at.at c.in_ok-at.ensures.occupied _ _ c.remove-value.ensures.content
+
+pub returns-clause-free : goal.returns-clause-free
+returns-clause-free g c = left_free _ _ _ _ c.requires _ c.find_slot.ensures.same c.in_ok-at.at c.in_ok-at.ensures.occupied _ _ _ c.remove-value.ensures.content
 
 pub returns-clause-room : goal.returns-clause-room
 returns-clause-room g c = took_room _ _ _ _ c.requires _ c.find_slot.ensures.same c.in_ok-at.at c.in_ok-at.ensures.occupied _ _ c.remove-value.ensures.content

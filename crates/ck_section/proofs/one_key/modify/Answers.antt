@@ -2,6 +2,7 @@ use Rattle.std.proofs.Common.{refl}
 use Rattle.ck_model.specs.declared.history.Act.TheVariants.{Change}
 use Rattle.ck_model.specs.declared.history.Reply.TheVariants.{Done, Absent}
 use Rattle.ck_section.proofs.Steps.{lacked, unchanged, place_still, here_still, since, changes_since}
+use Rattle.ck_section.proofs.KeptFree.{free_same, free_since}
 use Rattle.ck_section.proofs.KeptOthers.{keeps_same, keeps_since}
 use Rattle.ck_section.proofs.one_key.modify.Goals as goal
 
@@ -16,6 +17,9 @@ returns-in-None-clause-rest g c = unchanged _ _ c.find_slot.ensures.same
 
 pub returns-in-None-clause-others : goal.returns-in-None-clause-others
 returns-in-None-clause-others g c = keeps_same _ _ _ c.find_slot.ensures.same
+
+pub returns-in-None-clause-free : goal.returns-in-None-clause-free
+returns-in-None-clause-free g c = free_same _ _ c.find_slot.ensures.same
 
 pub modify_entry-requires : goal.modify_entry-requires
 modify_entry-requires g c = record {
@@ -34,6 +38,9 @@ returns-clause-rest g c = changes_since _ _ _ c.find_slot.ensures.same c.modify_
 
 pub returns-clause-others : goal.returns-clause-others
 returns-clause-others g c = keeps_since _ _ _ _ c.find_slot.ensures.same c.modify_entry.ensures.others
+
+pub returns-clause-free : goal.returns-clause-free
+returns-clause-free g c = free_since _ _ _ c.find_slot.ensures.same c.modify_entry.ensures.free
 
 pub returns-clause-stays : goal.returns-clause-stays
 returns-clause-stays g c = g.met.H.Held.stays_on _ _ _ c.find_slot.ensures.stays c.modify_entry.ensures.stays

@@ -1,7 +1,7 @@
 use Rattle.ck_model.specs.declared.history.Act.TheVariants.{Erase}
 use Rattle.ck_model.specs.declared.history.Reply.TheVariants.{Was}
 use Rattle.cuckoo_map.proofs.Sessions.{only_stripes, place_held, acted_locked, has_changed, has_room_left}
-use Rattle.cuckoo_map.proofs.ErasedRoom.{erased_keeps}
+use Rattle.cuckoo_map.proofs.KeptRoom.{erased_keeps_room}
 use Rattle.cuckoo_map.proofs.locked.LockedOn.erase.Goals as goal
 
 pub erase-requires : goal.erase-requires
@@ -25,5 +25,5 @@ returns-clause-room g c =
 
 pub returns-clause-others : goal.returns-clause-others
 returns-clause-others g c =
-    erased_keeps c.self.invariant c.self.view_is c.key_place-place.result c.key_place-place.ensures.s (g.Q.Query.name c.args.key) c.erase.new.held (only_stripes c.self.inside.whole c.erase.new.held c.erase.ensures.stays)
-    c.erase.result c.erase.ensures.rest c.erase.ensures.call c.erase.ensures.others c.erase.ensures.same c.erase.ensures.room
+    erased_keeps_room c.self.invariant c.self.view_is c.key_place-place.result c.key_place-place.ensures.s (g.Q.Query.name c.args.key) c.erase.new.held (only_stripes c.self.inside.whole c.erase.new.held c.erase.ensures.stays)
+    Erase (Was c.erase.result) c.erase.ensures.rest c.erase.ensures.call c.erase.ensures.free c.erase.result c.erase.ensures.same c.erase.ensures.room
