@@ -14,11 +14,10 @@ use Rattle.ck_core.specs.declared.trace.LockEvent.{LockEvent}
 use Rattle.ck_core.specs.Trace.{decided_in, steps_of}
 use Rattle.ck_words.specs.Words.{WordsState}
 use Rattle.ck_words.specs.Passes.{PassState}
-use Rattle.ck_words.specs.Closing.{IsCaller}
 use Rattle.ck_refusal.specs.declared.refusal.Why.{Why}
 use Rattle.ck_refusal.specs.declared.refusal.Why.TheVariants.{Busy, Memory, Full, LoadTooLow}
 use Rattle.cuckoo_map.specs.Refusals.{IsRefused}
-use Rattle.cuckoo_map.specs.Callers.{CallerState, caller_of, pass_of, IsSameCaller}
+use Rattle.cuckoo_map.specs.Callers.{CallerState, pass_of, IsSameCaller}
 use Rattle.ck_format.specs.declared.script.Command.{Command}
 use Rattle.ck_format.specs.declared.script.Command.TheVariants as command
 use Rattle.ck_format.specs.declared.answer.Answer.{Answer}
@@ -105,33 +104,24 @@ answered_as hash c d a b p q r h same_command same_answer same_caller =
     (subst (λ (x : Answer Pairs). IsAnsweredBy hash d x p q) (sym same_answer)
     (subst (λ (x : Command Name). IsAnsweredBy hash x a p q) (sym same_command) h))
 
--- a caller that was made of one pass, and answered a command and gave another, did so as the callers of these passes
-pub answered_by_passes : (hash : Name → ℕ) (w : WordsState) (c : Command Name) (a : Answer Pairs) (p q : PassState ℕ) (before after : CallerState ℕ)
-    → before ≡ caller_of w p → IsAnsweredBy hash c a before after → IsCaller after.table q → q ≡ pass_of after → IsCaller w q × IsAnsweredBy hash c a (caller_of w p) (caller_of w q)
-answered_by_passes hash w c a p q before after is answered own same =
-    let table : after.table ≡ w = answered.same.table ∙ ap (λ (x : CallerState ℕ). x.table) is in
-    let there : after ≡ caller_of w q = λ i. caller_of (table i) (sym same i) in (
-      subst (λ (x : WordsState). IsCaller x q) table own,
-      subst (λ (x : CallerState ℕ). IsAnsweredBy hash c a (caller_of w p) x) there (subst (λ (x : CallerState ℕ). IsAnsweredBy hash c a x after) is answered),
-    )
-
 -- a worker's command more
-pub left_by_one : {K : Type 0} (hash : Name → ℕ) (name : K → Name) (w : WordsState) (by : ℕ) (commands : List (Command K)) (command : Command K) (answers items : List (Answer (Vec (K × ℕ)))) (answer : Answer (Vec (K × ℕ))) (p q : PassState ℕ)
-    → IsCaller w p → IsCaller w q → p.view.by ≡ Some by → subhistory by p.view.seen ≡ p.view.mine → IsAnsweredBy hash (on_names name command) (answer_on_names name answer) (caller_of w p) (caller_of w q)
-    → HasMade hash name w by commands answers p → items ≡ answers ++ answer ∷ [] → HasMade hash name w by (commands ++ command ∷ []) items q
-left_by_one {K} hash name w by commands command answers items answer p q before after number own now have pushed =
-    let set = w.settings in
+pub left_by_one : {K : Type 0} (hash : Name → ℕ) (name : K → Name) (by : ℕ) (commands : List (Command K)) (command : Command K) (answers items : List (Answer (Vec (K × ℕ)))) (answer : Answer (Vec (K × ℕ))) (p q : CallerState ℕ)
+    → p.client.by ≡ Some by → subhistory by p.client.seen ≡ p.client.mine → IsAnsweredBy hash (on_names name command) (answer_on_names name answer) p q
+    → HasMade hash name by commands answers p → items ≡ answers ++ answer ∷ [] → HasMade hash name by (commands ++ command ∷ []) items q
+left_by_one {K} hash name by commands command answers items answer p q number own now have pushed =
+    let set = p.table.settings in
     let c = on_names name command in
     let a = answer_on_names name answer in
     let cs = map (on_names name) commands in
     let told = answers_on_names name answers in
     let more = now.watched in
-    let grows = decides_more set.callers by c a more.0 p.view.mine q.view.mine (now.entries by number) (more.2 by number).1 in
-    let misses = misses_if_busy set.turns by c a (caller_of w p) (caller_of w q) more now.busy (more.2 by number).0 in
-    subst (λ (l : List (LockEvent ℕ)). HaveLeft hash set q.view.seen set.callers by [] l (map (on_names name) (commands ++ command ∷ [])) (answers_on_names name items) q.view.mine) (sym more.1)
-    (subst (λ (xs : List (Command Name)). HaveLeft hash set q.view.seen set.callers by [] (p.view.watched ++ more.0) xs (answers_on_names name items) q.view.mine) (sym (map-append (on_names name) commands (command ∷ [])))
-    (subst (λ (xs : List (Answer Pairs)). HaveLeft hash set q.view.seen set.callers by [] (p.view.watched ++ more.0) (cs ++ c ∷ []) xs q.view.mine) (sym (ap (answers_on_names name) pushed ∙ map-append (answer_on_names name) answers (answer ∷ [])))
-    (left_more hash set q.view.seen set.callers by [] p.view.watched more.0 cs told p.view.mine q.view.mine c a (later_left hash set p.view.seen q.view.seen set.callers by [] p.view.watched cs told p.view.mine now.saw have) grows misses (now.grounds by number own))))
+    let grows = decides_more set.callers by c a more.0 p.client.mine q.client.mine (now.entries by number) (more.2 by number).1 in
+    let misses = misses_if_busy set.turns by c a p q more now.busy (more.2 by number).0 in
+    subst (λ (s : Settings). HaveLeft hash s q.client.seen s.callers by [] q.notes.watched (map (on_names name) (commands ++ command ∷ [])) (answers_on_names name items) q.client.mine) (sym (ap (λ (w : WordsState). w.settings) now.same.table))
+    (subst (λ (l : List (LockEvent ℕ)). HaveLeft hash set q.client.seen set.callers by [] l (map (on_names name) (commands ++ command ∷ [])) (answers_on_names name items) q.client.mine) (sym more.1)
+    (subst (λ (xs : List (Command Name)). HaveLeft hash set q.client.seen set.callers by [] (p.notes.watched ++ more.0) xs (answers_on_names name items) q.client.mine) (sym (map-append (on_names name) commands (command ∷ [])))
+    (subst (λ (xs : List (Answer Pairs)). HaveLeft hash set q.client.seen set.callers by [] (p.notes.watched ++ more.0) (cs ++ c ∷ []) xs q.client.mine) (sym (ap (answers_on_names name) pushed ∙ map-append (answer_on_names name) answers (answer ∷ [])))
+    (left_more hash set q.client.seen set.callers by [] p.notes.watched more.0 cs told p.client.mine q.client.mine c a (later_left hash set p.client.seen q.client.seen set.callers by [] p.notes.watched cs told p.client.mine now.saw have) grows misses (now.grounds by number own)))))
 
 -- what an insertion shows that was refused
 has_others : (hash : Name → ℕ) (set : Settings) (q : Name) (why : Why) (p p2 : PassState ℕ) → IsRefused hash set q why p p2 → HasOthers set.callers why

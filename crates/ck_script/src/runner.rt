@@ -1,13 +1,15 @@
 //! Runs scripts.
-ghost use Rattle.std.specs.Prelude.{◌≡◌, ◌≤◌, [], All, false, OnOk, IfOk, IfErr, vec_len};
+ghost use Rattle.std.specs.Prelude.{◌≡◌, ◌≤◌, [], All, false, OnOk, IfOk, IfErr, map, vec_len};
 ghost use Rattle.std.specs.List.{AllZip, zip};
 ghost use Rattle.ck_model.specs.Ranges.{AreInRange};
 ghost use Rattle.ck_model.specs.Counting.{counting};
-ghost use Rattle.ck_words.specs.Closing.{AreAllPasses, dealt};
+ghost use Rattle.ck_words.specs.Words.{WordsState};
+ghost use Rattle.ck_words.specs.Closing.{dealt};
+ghost use Rattle.cuckoo_map.specs.Callers.{callers_of, pass_of};
 ghost use Rattle.ck_format.specs.Script.{said_in, said_of};
 ghost use Rattle.ck_script.specs.Output.{IsOutputOf};
 ghost use Rattle.ck_format.specs.Answers.{lists_on_names};
-ghost use Rattle.ck_script.specs.Jobs.{IsJob, IsNew, IsReadyJob, IsTextAtEnd, answers_of, passes_of};
+ghost use Rattle.ck_script.specs.Jobs.{IsJob, IsNew, IsReadyJob, HasPass, AreAllHandles, IsTextAtEnd, answers_of, handles_of};
 ghost use Rattle.ck_script.specs.Run.{TakesOutput, StopsBy};
 
 use crate::gate::Gate;
@@ -15,7 +17,7 @@ use crate::job::{Done, Job, Told};
 use crate::worker::work_all;
 use ck_format::{Command, Script, Sink, Work, WrittenKey, text_of, write_all};
 use ck_model::settings::Settings;
-use cuckoo_map::{OpenFault, Pass, Table};
+use cuckoo_map::{Handle, OpenFault, Pass};
 use std::alloc::{AllocError, Global};
 use std::thread::Threads;
 use thiserror::Error;
@@ -31,97 +33,111 @@ pub enum RunFault {
     Write { written: u64 },
 }
 
-// An empty table, and the passes of its callers.
+// All handles of an empty table.
 fn open<K: WrittenKey>(
     alloc: Global,
     settings: Settings,
-) -> Result<(Table<K, u64>, Vec<Pass<K, u64>>), AllocError>
+) -> Result<Vec<Handle<K, u64>>, AllocError>
     requires { AreInRange settings }
-    ensures settings { IfOk result (λ r. r.0.settings ≡ settings) }
-    ensures all { IfOk result (λ r. AreAllPasses r.0 r.1.items) }
-    ensures dealt { IfOk result (λ r.
-        r.1.items ≡ dealt r.0.table settings (counting 0 settings.callers)) }
+    ensures { IfOk result (λ handles. (w : WordsState) × (w.settings ≡ settings)
+        × (handles.items ≡ callers_of w (dealt w.table settings (counting 0 settings.callers)))) }
 {
-    match Table::open(alloc, settings) {
-        Ok(opened) => Ok(opened),
+    match Handle::open(alloc, settings) {
+        Ok(handles) => Ok(handles),
         Err(OpenFault::Memory) => Err(AllocError),
         Err(OpenFault::Settings(_)) => unreachable!(),
     }
 }
 
 // The job of one worker, with room for all of its answers.
-fn job_of<'t, K: WrittenKey>(
+fn job_of<K: WrittenKey>(
     alloc: Global,
-    table: &'t Table<K, u64>,
     worker: u32,
-    pass: Pass<K, u64>,
+    handle: Handle<K, u64>,
     commands: Vec<Command<K>>,
-) -> Result<Job<'t, K>, AllocError>
-    requires { IsNew table.now pass }
-    ensures job { IfOk result (IsJob table.now (pass, commands)) }
+) -> Result<Job<K>, AllocError>
+    requires { IsNew handle }
+    ensures job { IfOk result (IsJob (handle, commands)) }
     ensures ready { IfOk result IsReadyJob }
 {
     let answers = Vec::with_capacity(alloc, commands.len())?;
     Ok(Job {
         worker,
-        table,
-        pass,
+        handle,
         commands,
         answers,
     })
 }
 
 // A job for each worker, numbered from 1.
-fn jobs_of<'t, K: WrittenKey>(
+fn jobs_of<K: WrittenKey>(
     alloc: Global,
-    table: &'t Table<K, u64>,
-    passes: Vec<Pass<K, u64>>,
+    handles: Vec<Handle<K, u64>>,
     workers: Vec<Vec<Command<K>>>,
-) -> Result<Vec<Job<'t, K>>, AllocError>
+) -> Result<Vec<Job<K>>, AllocError>
     requires few { vec_len workers ≤ 1024 }
-    requires new { All (IsNew table.now) passes.items }
-    ensures jobs { IfOk result (λ jobs.
-        AllZip (IsJob table.now) (zip passes.items workers.items) jobs.items) }
+    requires new { All IsNew handles.items }
+    ensures jobs { IfOk result (λ jobs. AllZip IsJob (zip handles.items workers.items) jobs.items) }
     ensures ready { IfOk result (λ jobs. All IsReadyJob jobs.items) }
 {
     let mut jobs = Vec::with_capacity(alloc, workers.len())?;
-    for (pass, commands) in passes.into_iter().zip(workers) {
+    for (handle, commands) in handles.into_iter().zip(workers) {
         let worker = jobs.len() as u32 + 1;
-        jobs.push(job_of(alloc, table, worker, pass, commands)?)?;
+        jobs.push(job_of(alloc, worker, handle, commands)?)?;
     }
     Ok(jobs)
 }
 
-// The answers of the workers, and their passes.
+// The answers of the workers, and their handles.
 fn parted<K: WrittenKey>(
     alloc: Global,
     dones: Vec<Done<K>>,
-) -> Result<(Vec<Vec<Told<K>>>, Vec<Pass<K, u64>>), AllocError>
+) -> Result<(Vec<Vec<Told<K>>>, Vec<Handle<K, u64>>), AllocError>
     ensures answers { IfOk result (λ r. r.0.items ≡ answers_of dones.items) }
-    ensures passes { IfOk result (λ r. r.1.items ≡ passes_of dones.items) }
+    ensures handles { IfOk result (λ r. r.1.items ≡ handles_of dones.items) }
 {
     let mut answers = Vec::with_capacity(alloc, dones.len())?;
-    let mut passes = Vec::with_capacity(alloc, dones.len())?;
+    let mut handles = Vec::with_capacity(alloc, dones.len())?;
     for done in dones {
         answers.push(done.answers)?;
-        passes.push(done.pass)?;
+        handles.push(done.handle)?;
     }
-    Ok((answers, passes))
+    Ok((answers, handles))
+}
+
+// The passes of these handles.
+fn passes_of<K: WrittenKey>(
+    alloc: Global,
+    handles: Vec<Handle<K, u64>>,
+) -> Result<Vec<Pass<K, u64>>, AllocError>
+    ensures passes { IfOk result (λ passes. passes.items ≡ map pass_of handles.items) }
+    ensures own { OnOk result (All HasPass handles.items) }
+{
+    let mut passes = Vec::with_capacity(alloc, handles.len())?;
+    for handle in handles {
+        passes.push_reserved(handle.into_pass());
+    }
+    Ok(passes)
 }
 
 // Ends the table of workers who are done: the text of their answers and of the pairs that they
 // left.
 fn text_at_end<K: WrittenKey>(
     alloc: Global,
-    table: Table<K, u64>,
-    passes: Vec<Pass<K, u64>>,
+    handles: Vec<Handle<K, u64>>,
     answers: &[Vec<Told<K>>],
 ) -> Result<Vec<u8>, AllocError>
-    requires { AreAllPasses table passes.items }
-    ensures { IfOk result (λ text. IsTextAtEnd K.keys table.settings passes.items
+    requires { (w : WordsState) × AreAllHandles w handles.items }
+    ensures { IfOk result (λ text. (w : WordsState) → AreAllHandles w handles.items
+        → IsTextAtEnd K.keys w.settings (map pass_of handles.items)
         (lists_on_names K.name answers.now) text.items) }
 {
-    match table.close(passes) {
+    let mut others = handles;
+    let Some(last) = others.pop() else {
+        unreachable!()
+    };
+    let passes = passes_of(alloc, others)?;
+    match last.close_table(passes) {
         Ok(pairs) => text_of(alloc, answers, &pairs),
         // No worker holds a stripe any more, so it is memory that was refused.
         Err(_) => Err(AllocError),
@@ -137,11 +153,11 @@ fn output_of<T: Threads + Sync, K: WrittenKey + Send, G: Gate>(
 ) -> Result<Vec<u8>, AllocError>
     ensures { IfOk result (λ text. IsOutputOf (said_in K.keys K.name work) text.items) }
 {
-    let (table, passes) = open(alloc, work.settings)?;
-    let jobs = jobs_of(alloc, &table, passes, work.workers)?;
+    let handles = open(alloc, work.settings)?;
+    let jobs = jobs_of(alloc, handles, work.workers)?;
     let dones = work_all(rt, alloc, gate, jobs)?;
-    let (answers, passes) = parted(alloc, dones)?;
-    text_at_end(alloc, table, passes, &answers)
+    let (answers, handles) = parted(alloc, dones)?;
+    text_at_end(alloc, handles, &answers)
 }
 
 // What a run of the script writes.

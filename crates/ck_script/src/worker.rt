@@ -10,27 +10,26 @@ use ck_format::WrittenKey;
 use std::alloc::{AllocError, Global};
 use std::thread::{Threads, map_vec};
 
-// Makes the calls of a worker by its pass, and notes their answers.
-fn work<K: WrittenKey, G: Gate>(alloc: Global, gate: &G, job: Job<'_, K>) -> Done<K>
+// Makes the calls of a worker by its handle, and notes their answers.
+fn work<K: WrittenKey, G: Gate>(alloc: Global, gate: &G, job: Job<K>) -> Done<K>
     requires { IsReadyJob job }
     ensures { HasWorked K.hash K.name job.entry result }
 {
     let Job {
         worker,
-        table,
-        mut pass,
+        mut handle,
         commands,
         mut answers,
     } = job;
     for command in commands {
         let line = answers.len() as u64 + 1;
         gate.before(worker, line);
-        let (answer, caller) = answer_of(alloc, table.caller(pass), command);
-        pass = caller.into_pass();
+        let (answer, back) = answer_of(alloc, handle, command);
+        handle = back;
         answers.push_reserved(answer);
         gate.after(worker, line);
     }
-    Done { answers, pass }
+    Done { answers, handle }
 }
 
 /// Does all jobs, each in a thread of its own.
@@ -38,12 +37,12 @@ pub fn work_all<T: Threads + Sync, K: WrittenKey + Send, G: Gate>(
     rt: &T,
     alloc: Global,
     gate: &G,
-    jobs: Vec<Job<'_, K>>,
+    jobs: Vec<Job<K>>,
 ) -> Result<Vec<Done<K>>, AllocError>
     requires { All IsReadyJob jobs.items }
     ensures { IfOk result (λ dones. AllZip (HasWorked K.hash K.name) jobs.entry.items dones.items) }
 {
-    let work_on = |job: Job<'_, K>| -> Done<K>
+    let work_on = |job: Job<K>| -> Done<K>
         requires { IsReadyJob job }
         ensures { HasWorked K.hash K.name job.entry result }
     { work(alloc, gate, job) };

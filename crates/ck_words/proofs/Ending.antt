@@ -2,6 +2,7 @@
 use Rattle.std.proofs.Common.{◌≡◌, ℕ, ◌^◌, ◌<◌, ◌≤◌, List, [], ◌∷◌, ◌++◌, length, reverse, refl, sym, ap, ◌∙◌, subst, arith, inl, Some}
 use Rattle.std.specs.Option.{unwrap_or}
 use Rattle.std.specs.FinMap.{from_entries}
+use Rattle.std.specs.Prelude.{All}
 use Rattle.std.proofs.lemmas.List.Elements.{All-push, All-pop, AllZip-push}
 use Rattle.std.proofs.Math.Nat.{one-le-pow}
 use Rattle.ck_model.specs.declared.contents.Content.{Content}
@@ -31,9 +32,13 @@ first_power : {V : Type 0} (hs : Stripes V) (t : ℕ) → IsIn t (numbers hs) �
 first_power [] t i = absurd i
 first_power (h ∷ hs) t i = (h.0, h.1, inl (refl, refl), refl)
 
+-- all passes but the last are of callers, and so is the last
+pub callers_apart : {V : Type 0} (w : WordsState) (os : List (PassState V)) (p : PassState V) → AreAllPasses w (os ++ p ∷ []) → All (IsCaller w) os × IsCaller w p
+callers_apart w os p all = All-pop (IsCaller w) (os ++ p ∷ []) os (Some p) refl all.callers
+
 module _ {V : Type 0} (w : WordsState) (os : List (PassState V)) (p p1 : PassState V) (all : AreAllPasses w (os ++ p ∷ [])) (stays : Stays p.view p1.view) where
   last_caller : IsCaller w p
-  last_caller = (All-pop (IsCaller w) (os ++ p ∷ []) os (Some p) refl all.callers).1
+  last_caller = (callers_apart w os p all).1
 
   same_parts : parts_of (os ++ p1 ∷ []) ≡ parts_of (os ++ p ∷ [])
   same_parts =
@@ -44,7 +49,7 @@ module _ {V : Type 0} (w : WordsState) (os : List (PassState V)) (p p1 : PassSta
   pub all_back : IsPassOf w p1 → IsIdle p1 → AreAllPasses w (os ++ p1 ∷ [])
   all_back own idle =
       let c = last_caller in
-      let fronts = (All-pop (IsCaller w) (os ++ p ∷ []) os (Some p) refl all.callers).0 in
+      let fronts = (callers_apart w os p all).0 in
       record {
         callers = All-push (IsCaller w) os p1 fronts (record { own = own; idle = idle; alone = stays.others ∙ c.alone; number = (c.number.0, stays.by ∙ c.number.1, c.number.2) });
         all = λ m l. subst (λ (x : List (ℕ × List (Entry V))). IsIn m (numbers x)) (sym same_parts) (all.all m l);

@@ -1,5 +1,5 @@
 //! The end of a table.
-ghost use Rattle.std.specs.Prelude.{◌≡◌, ℕ, ◌+◌, ◌^◌, ◌≤◌, [], All, IfNone, IfSome, IfOk, IfErr, length, map, vec_capacity};
+ghost use Rattle.std.specs.Prelude.{◌≡◌, ℕ, ◌+◌, ◌^◌, ◌≤◌, ◌∷◌, ◌++◌, [], All, IfNone, IfSome, IfOk, IfErr, length, map, vec_capacity};
 ghost use Rattle.ck_model.specs.Listing.{named};
 ghost use Rattle.std.specs.FinMap.{from_entries};
 ghost use Rattle.ck_model.specs.Contents.{NamesApart, pairs_of};
@@ -8,7 +8,7 @@ ghost use Rattle.ck_stripe.specs.Tables.{AreSettled};
 ghost use Rattle.ck_model.specs.Counting.{counting};
 ghost use Rattle.ck_words.specs.Passes.{IsPassOf, IsIdle, ShowsSeen, numbers_of};
 ghost use Rattle.ck_words.specs.Retries.{Stays};
-ghost use Rattle.ck_words.specs.Closing.{IsWhole, IsCaller, AreAllPasses, EachStays, Gathered, Closes};
+ghost use Rattle.ck_words.specs.Closing.{IsWhole, IsCaller, AreAllPasses, Gathered, Closes};
 
 use crate::guard;
 use crate::lift::Whole;
@@ -20,34 +20,30 @@ use ck_stripe::len;
 use std::alloc::Global;
 
 impl<K: TableKey + Drop, V: Drop> Words<K, V> {
-    /// Ends the table, given the passes of all callers, and gives its pairs. There is one history
-    /// of all that the callers have done, and these pairs are what it leaves: what all stripes of a
-    /// table with these settings contain. The history is what was decided in one legal trace.
+    /// Ends the table, given the pass of one caller and those of all others, and gives its pairs.
+    /// There is one history of all that the callers have done, and these pairs are what it leaves:
+    /// what all stripes of a table with these settings contain. The history is what was decided in
+    /// one legal trace. Nobody can make a call any more.
     ///
-    /// It is refused where a stripe was found held, and for want of memory. Then it gives words and
+    /// It is refused where a stripe was found held, and for want of memory. Then it gives the
     /// passes back, and no entry has changed.
     pub fn close(
-        self,
-        passes: Vec<Pass<K, V>>,
-    ) -> Result<Vec<(K, V)>, (Words<K, V>, Vec<Pass<K, V>>)>
-        requires { AreAllPasses self passes.items }
-        ensures closed { IfOk result (λ pairs. Closes K.hash self.settings passes.items
-            (from_entries (map (named K.name) pairs.items))) }
+        &self,
+        pass: Pass<K, V>,
+        others: Vec<Pass<K, V>>,
+    ) -> Result<Vec<(K, V)>, (Pass<K, V>, Vec<Pass<K, V>>)>
+        requires { AreAllPasses self.now (others.items ++ pass ∷ []) }
+        ensures closed { IfOk result (λ pairs. Closes K.hash self.now.settings
+            (others.items ++ pass ∷ []) (from_entries (map (named K.name) pairs.items))) }
         ensures apart { IfOk result (λ pairs. NamesApart (map (named K.name) pairs.items)) }
-        ensures words { IfErr result (λ r. r.0 ≡ self) }
-        ensures passes { IfErr result (λ r. AreAllPasses self r.1.items) }
-        ensures stays { IfErr result (λ r. EachStays passes.items r.1.items) }
+        ensures passes { IfErr result (λ r. AreAllPasses self.now (others.items ++ r.0 ∷ [])) }
+        ensures stays { IfErr result (λ r. Stays pass.view r.0.view) }
+        ensures others { IfErr result (λ r. r.1 ≡ others) }
     {
-        // Its fields show that the table has a caller, and so a pass.
-        let _ = &self.table;
-        let alloc = *passes.allocator();
-        let mut others = passes;
-        let Some(mut pass) = others.pop() else {
-            unreachable!()
-        };
+        let mut pass = pass;
+        let alloc = *others.allocator();
         let Some(pairs) = self.hold_with_room(alloc, &mut pass) else {
-            others.push_reserved(pass);
-            return Err((self, others));
+            return Err((pass, others));
         };
         self.gather_all(&mut pass, others);
         Ok(self.pour(pass, pairs))

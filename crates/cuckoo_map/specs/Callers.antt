@@ -1,5 +1,5 @@
 -- What contracts see of a caller, and what its calls leave of it.
-use Rattle.std.specs.Prelude.{◌≡◌, ℕ, ◌≤◌, List, [], ◌∷◌, ◌++◌, map, Option, Result, Bool, IfOk, IfErr, OnOk}
+use Rattle.std.specs.Prelude.{◌≡◌, ℕ, ◌<◌, ◌≤◌, List, [], ◌∷◌, ◌++◌, map, All, Option, Result, Bool, IfOk, IfErr, OnOk}
 use Rattle.std.specs.declared.cmp.Ordering.{Ordering}
 use Rattle.std.specs.FinMap.{entries}
 use Rattle.ck_model.specs.declared.history.Act.{Act}
@@ -9,10 +9,12 @@ use Rattle.ck_model.specs.declared.history.Reply.{Reply}
 use Rattle.ck_model.specs.declared.history.Reply.TheVariants.{Count, Closed}
 use Rattle.ck_model.specs.Promise.{Name, Map, Client, Replied}
 use Rattle.ck_model.specs.Listing.{ListsInOrder}
+use Rattle.ck_model.specs.Numbered.{IsIn, numbers}
 use Rattle.ck_core.specs.declared.view.RoomNote.{RoomNote}
 use Rattle.ck_core.specs.State.{client_of}
 use Rattle.ck_words.specs.Words.{WordsState}
 use Rattle.ck_words.specs.Passes.{PassState}
+use Rattle.ck_words.specs.Closing.{IsCaller, parts_of}
 use Rattle.ck_words.specs.Retries.{WatchesMore, DecidesThenGives, Stays, as_doubled, FindsAmong}
 use Rattle.ck_words.specs.Meeting.{MessageState, Hears}
 use Rattle.ck_refusal.specs.declared.refusal.Busy.{Busy}
@@ -148,6 +150,11 @@ module _ {V : Type 0} where
   abbrev pub IsNotDrained : CallerState V → CallerState V → DrainFault → Type 0
   IsNotDrained c d (drain.Busy t) = IsBusyAmong (IsStripeIn c.table.settings) c.table.settings t (pass_of c) (pass_of d)
   IsNotDrained c d drain.Memory = (m : Map V) × Replies (Session (entries m) (entries m)) c d Closed
+
+  -- Passes of other callers of its table, of which each number but its own has one.
+  pub record AreOthers (c : CallerState V) (ps : List (PassState V)) : Type 0 where
+    pub callers : All (IsCaller c.table) ps
+    pub all : (m : ℕ) → m < c.table.settings.callers → IsIn m (numbers (parts_of (ps ++ pass_of c ∷ [])))
 
   -- the insertion was refused, and the key came back with the value, or with what was to make one
   abbrev pub ComesBack : {K X : Type 0} → (Name → ℕ) → Name → K → X → CallerState V → CallerState V → Refused K X → Type 0

@@ -1,8 +1,10 @@
 //! A caller: how it has the table, and a pass of its own.
-ghost use Rattle.std.specs.Prelude.{◌≡◌, ◌≢◌, ◌*◌, ◌^◌, ◌<◌, ◌≤◌, ℕ, All, length, map, OnOk, OnErr, IfOk, IfErr, MatchResult, nat_eq};
+ghost use Rattle.std.specs.Prelude.{◌≡◌, ◌≢◌, ◌*◌, ◌^◌, ◌<◌, ◌≤◌, ◌∷◌, ◌++◌, [], ℕ, All, length, map, OnOk, OnErr, IfOk, IfErr, MatchResult, nat_eq};
 ghost use Rattle.std.specs.Fn.{FnOnceReturnsAt, FnOnceReturnsAtMut};
 ghost use Rattle.ck_model.specs.declared.history.Call.TheVariants.{ChangeTwo};
-ghost use Rattle.ck_words.specs.Closing.{IsCaller};
+ghost use Rattle.ck_model.specs.Promise.{Map};
+ghost use Rattle.ck_model.specs.Listing.{ListsInOrder};
+ghost use Rattle.ck_words.specs.Closing.{IsCaller, Closes};
 
 use crate::locked::LockedOn;
 use crate::locked_keys::LockedKeysOn;
@@ -115,7 +117,7 @@ impl<T: TableRef<K, V> + Drop, K: TableKey + Drop, V: Drop> CallerOn<T, K, V> {
     ghost use Rattle.ck_section.specs.Acts.{Finds, FindsBound, FindsBy, Inserts, InsertsBy, FindsOrInserts};
     ghost use Rattle.ck_section.specs.Acts.{Assigns, Upserts, Uprases, TriesUpsert, TriesUpsertWith, Updates, Modifies, Changes};
     ghost use Rattle.ck_section.specs.Acts.{ReplacesIf, TriesChange, Erases, ErasesBy, ChangesTwo};
-    ghost use Rattle.cuckoo_map.specs.Callers.{pass_of, IsSameCaller, Replies, RepliesOn, KeepsNotes, StaysAsIs, StaysButDoublings, MeetsCaller, HearsMessage, message_of_caller, Drains, IsNotDrained, FindsHeldOfAny};
+    ghost use Rattle.cuckoo_map.specs.Callers.{pass_of, IsSameCaller, Replies, RepliesOn, KeepsNotes, StaysAsIs, StaysButDoublings, MeetsCaller, HearsMessage, message_of_caller, Drains, IsNotDrained, AreOthers, FindsHeldOfAny};
     ghost use Rattle.cuckoo_map.specs.Callers.{QueryLeaves, InsertionLeaves, KeysLeave, Counts, GrowsTo, GrowsFor, IsBusyOn};
     ghost use Rattle.cuckoo_map.specs.Callers.{IsBusyOnSome, IsBusyOnAny, IsBusyOnTwo, FindsHeldOwn};
     ghost use Rattle.cuckoo_map.specs.Callers.{FindsHeldOfTwo, FindsHeldAmong, FindsHeldOfAny};
@@ -869,6 +871,39 @@ impl<T: TableRef<K, V> + Drop, K: TableKey + Drop, V: Drop> CallerOn<T, K, V> {
                 let why = DrainFault::Memory;
                 Err(NotDrained { caller, why })
             }
+        }
+    }
+
+    /// Is [`Table::close`], by this caller: ends the table, given the passes of all its other
+    /// callers. Refused, it gives the caller and the passes back, with the same entries.
+    ///
+    /// ```
+    /// let mut passes = Vec::with_capacity(alloc, handles.len())?;
+    /// for handle in handles {
+    ///     passes.push_reserved(handle.into_pass());
+    /// }
+    /// match last.close_table(passes) {
+    ///     Ok(pairs) => println!(rt; "{} keys were bound", pairs.len())?,
+    ///     Err((_last, passes)) => println!(rt; "not now; {} passes are back", passes.len())?,
+    /// }
+    /// ```
+    pub fn close_table(
+        self,
+        others: Vec<Pass<K, V>>,
+    ) -> Result<Vec<(K, V)>, (CallerOn<T, K, V>, Vec<Pass<K, V>>)>
+        requires { AreOthers self others.items }
+        ensures pairs { IfOk result (λ pairs. (m : Map V)
+            × Closes K.hash self.table.settings (others.items ++ pass_of self ∷ []) m
+            × ListsInOrder K.name K.cmp pairs.items m) }
+        ensures same { IfErr result (λ back. IsSameCaller self back.0) }
+        ensures stays { IfErr result (λ back. StaysAsIs self back.0) }
+        ensures others { IfErr result (λ back. back.1 ≡ others) }
+        ensures again { IfErr result (λ back. AreOthers back.0 back.1.items) }
+    {
+        let CallerOn { table, pass } = self;
+        match table.table().close_by(pass, others) {
+            Ok(pairs) => Ok(pairs),
+            Err((pass, others)) => Err((CallerOn { table, pass }, others)),
         }
     }
 }

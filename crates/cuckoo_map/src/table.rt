@@ -1,9 +1,10 @@
 //! The table, and how it begins and ends.
-ghost use Rattle.std.specs.Prelude.{◌≡◌, IfOk, IfErr, Err};
+ghost use Rattle.std.specs.Prelude.{◌≡◌, [], ◌∷◌, ◌++◌, IfOk, IfErr, Err};
 ghost use Rattle.ck_model.specs.Promise.{Map};
 ghost use Rattle.ck_model.specs.Listing.{ListsInOrder};
 ghost use Rattle.ck_model.specs.declared.settings.OutOfRange.{OutOfRange};
 ghost use Rattle.ck_model.specs.Ranges.{AreInRange, IsOut};
+ghost use Rattle.ck_words.specs.Retries.{Stays};
 ghost use Rattle.ck_words.specs.Meeting.{message_from, Hears, Meets};
 ghost use Rattle.ck_model.specs.Counting.{counting};
 ghost use Rattle.ck_words.specs.Closing.{IsCaller, AreAllPasses, EachStays, Closes, dealt};
@@ -96,15 +97,39 @@ impl<K: TableKey + Drop, V: Drop> Table<K, V> {
         ensures back { IfErr result (λ back. (back.0 ≡ self)
             × AreAllPasses back.0 back.1.items × EachStays passes.items back.1.items) }
     {
-        let Table { words, growth } = self;
-        match words.close(passes) {
-            Ok(pairs) => {
-                let mut pairs = pairs;
-                pairs.sort_unstable_by(|a, b| a.0.cmp(&b.0));
-                Ok(pairs)
+        self.words.show_range();
+        let mut others = passes;
+        let Some(pass) = others.pop() else {
+            unreachable!()
+        };
+        match self.close_by(pass, others) {
+            Ok(pairs) => Ok(pairs),
+            Err((pass, others)) => {
+                let mut passes = others;
+                passes.push_reserved(pass);
+                Err((self, passes))
             }
-            Err((words, passes)) => Err((Table { words, growth }, passes)),
         }
+    }
+
+    // Ends the table by this pass, given those of all other callers. The pairs are in rising order
+    // of their keys.
+    pub(crate) fn close_by(
+        &self,
+        pass: Pass<K, V>,
+        others: Vec<Pass<K, V>>,
+    ) -> Result<Vec<(K, V)>, (Pass<K, V>, Vec<Pass<K, V>>)>
+        requires { AreAllPasses self.now (others.items ++ pass ∷ []) }
+        ensures pairs { IfOk result (λ pairs. (m : Map V)
+            × Closes K.hash self.now.settings (others.items ++ pass ∷ []) m
+            × ListsInOrder K.name K.cmp pairs.items m) }
+        ensures passes { IfErr result (λ r. AreAllPasses self.now (others.items ++ r.0 ∷ [])) }
+        ensures stays { IfErr result (λ r. Stays pass.view r.0.view) }
+        ensures others { IfErr result (λ r. r.1 ≡ others) }
+    {
+        let mut pairs = self.words.close(pass, others)?;
+        pairs.sort_unstable_by(|a, b| a.0.cmp(&b.0));
+        Ok(pairs)
     }
 
     /// `Caller::tell`, by the pass `a`.

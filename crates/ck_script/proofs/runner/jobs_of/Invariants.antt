@@ -4,9 +4,9 @@ use Rattle.std.specs.List.{AllZip}
 use Rattle.ck_script.specs.Jobs.{IsJob, IsReadyJob}
 use Rattle.ck_script.proofs.runner.jobs_of.Given as goal
 
-abbrev pub invariant-loop-pass : goal.invariant-loop-pass
-invariant-loop-pass g l = record {
+abbrev pub invariant-loop-handle : goal.invariant-loop-handle
+invariant-loop-handle g l = record {
   count : vec_len l.jobs ≡ length l.yielded;
-  jobs : AllZip (IsJob l.table) l.yielded l.jobs.items;
+  jobs : AllZip IsJob l.yielded l.jobs.items;
   ready : All IsReadyJob l.jobs.items;
 }

@@ -1,20 +1,33 @@
-use Rattle.std.proofs.Common.{rules, refl, ap, map, subst, ◌∙◌}
-use Rattle.std.specs.FinMap.{from_entries}
-use Rattle.std.specs.Ordering.{is_lt, is_eq}
-use Rattle.std.proofs.lemmas.List.Sorted.{ranks_by, answers_always}
-use Rattle.ck_model.specs.Listing.{named}
-use Rattle.ck_model.proofs.Rising.{lists_in_order}
+use Rattle.std.proofs.Common.{◌≡◌, List, [], ◌∷◌, ◌++◌, ◌∙◌, refl, sym, ap, subst, arith}
+use Rattle.ck_model.specs.Ranges.{AreInRange}
 use Rattle.ck_words.specs.Words.{WordsState}
-use Rattle.ck_words.specs.Closing.{Closes}
+use Rattle.ck_words.specs.Passes.{PassState}
+use Rattle.ck_words.specs.Closing.{AreAllPasses, EachStays, Closes}
+use Rattle.ck_words.proofs.Ending.{some_pass, each_stays}
 use Rattle.cuckoo_map.proofs.table.Table.close.Goals as goal
 
+pub unreachable-requires : goal.unreachable-requires
+unreachable-requires g c =
+    let range = subst (λ (w : WordsState). AreInRange w.settings) c.self.view_is c.show_range.ensures in
+    let none = c.in_default.ensures.cases.0 in
+    let count = c.args.passes.ok.0 in
+    some_pass c.args.self c.args.passes.items range.caller c.requires (omega arith)
+
+pub close_by-requires : goal.close_by-requires
+close_by-requires g c = subst (AreAllPasses c.args.self) c.in-Some.ensures.items c.requires
+
 pub returns-in-Ok-clause-pairs : goal.returns-in-Ok-clause-pairs
-returns-in-Ok-clause-pairs g c = (
-  from_entries (map (named g.K.TableKey.name) c.in-Ok.pairs.items),
-  subst (λ (w : WordsState). Closes g.K.TableKey.hash w.settings c.args.passes.items (from_entries (map (named g.K.TableKey.name) c.in-Ok.pairs.items))) c.self.view_is c.in-Ok.ensures.closed,
-  lists_in_order g.K.TableKey.name g.K.Ord.cmp g.met.K.Ord.total
-      (λ a b e. (g.met.K.TableKey.equal_names a b).0 (g.met.K.Ord.matches_eq a b ∙ ap is_eq e))
-      c.in-Ok.pairs.items c.sort_unstable_by.new.self.items c.sort_unstable_by.ensures.permutation
-      (c.sort_unstable_by.ensures.sorted (λ x y. is_lt (g.K.Ord.cmp x.0 y.0)) (ranks_by g.met.K.Ord.total (λ e. e.0)) (answers_always _ _ _ (λ f a r q k. search rules)))
-      c.in-Ok.ensures.apart _ refl,
-)
+returns-in-Ok-clause-pairs g c =
+    let pairs = c.in-Ok.ensures.pairs in
+    (pairs.0, subst (λ (ps : List (PassState g.row.V.Denot)). Closes g.K.TableKey.hash c.args.self.settings ps pairs.0) (sym c.in-Some.ensures.items) pairs.1, pairs.2)
+
+pub returns-in-Err-clause-back : goal.returns-in-Err-clause-back
+returns-in-Err-clause-back g c =
+    let w = c.args.self in
+    let all = subst (AreAllPasses w) c.in-Some.ensures.items c.requires in
+    let back : c.push_reserved.new.self.items ≡ c.pop.new.self.items ++ c.in-Err.pass ∷ [] = c.push_reserved.ensures.items ∙ ap (λ v. v.items ++ c.in-Err.pass ∷ []) c.in-Err.ensures.others in (
+      refl,
+      subst (AreAllPasses w) (sym back) c.in-Err.ensures.passes,
+      subst (λ (x : List (PassState g.row.V.Denot) × List (PassState g.row.V.Denot)). EachStays x.0 x.1) (λ i. (sym c.in-Some.ensures.items i, sym back i))
+          (each_stays w c.pop.new.self.items c.in-Some.pass c.in-Err.pass all c.in-Err.ensures.stays),
+    )
