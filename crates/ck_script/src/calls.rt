@@ -124,12 +124,7 @@ fn moved(amount: u64, from: u64, to: u64) -> (u64, u64)
 
 // Nothing goes from a key to itself. No script that was read says so, and no call of the table does
 // it.
-fn transfer<K: TableKey + Drop>(
-    handle: &mut Handle<K, u64>,
-    from: K,
-    to: K,
-    amount: u64,
-) -> Told<K>
+fn transfer<K: TableKey + Drop>(handle: &mut Handle<K, u64>, from: K, to: K, amount: u64) -> Told<K>
     ensures { IsAnsweredBy K.hash (Command.Move (K.name from) (K.name to) amount)
         (answer_on_names K.name result) handle.old handle.new }
 {

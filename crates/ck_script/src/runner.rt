@@ -34,10 +34,7 @@ pub enum RunFault {
 }
 
 // All handles of an empty table.
-fn open<K: WrittenKey>(
-    alloc: Global,
-    settings: Settings,
-) -> Result<Vec<Handle<K, u64>>, AllocError>
+fn open<K: WrittenKey>(alloc: Global, settings: Settings) -> Result<Vec<Handle<K, u64>>, AllocError>
     requires { AreInRange settings }
     ensures { IfOk result (λ handles. (w : WordsState) × (w.settings ≡ settings)
         × (handles.items ≡ callers_of w (dealt w.table settings (counting 0 settings.callers)))) }
