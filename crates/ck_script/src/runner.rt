@@ -125,8 +125,8 @@ fn text_at_end<K: WrittenKey>(
     answers: &[Vec<Told<K>>],
 ) -> Result<Vec<u8>, AllocError>
     requires { (w : WordsState) × AreAllHandles w handles.items }
-    ensures { IfOk result (λ text. (w : WordsState) → AreAllHandles w handles.items
-        → IsTextAtEnd K.keys w.settings (map pass_of handles.items)
+    ensures { (w : WordsState) → AreAllHandles w handles.items → IfOk result (λ text.
+        IsTextAtEnd K.keys w.settings (map pass_of handles.items)
         (lists_on_names K.name answers.now) text.items) }
 {
     let mut others = handles;
