@@ -1,11 +1,11 @@
 -- What the workers of a run leave is its output.
 use Rattle.std.proofs.Common.{◌≡◌, Result, Ok, Err, ℕ, zero, suc, ◌<◌, List, [], ◌∷◌, ◌++◌, length, map, All, refl, sym, ap, ◌∙◌, subst, add-one, arith, ◌≤◌, Some}
-use Rattle.std.specs.Prelude.{Option, unwrap_or, IfOk, vec_len}
+use Rattle.std.specs.Prelude.{Option, unwrap_or, IfOk, vec_len, get_or}
 use denote.Param.Members.{Shared}
 use Rattle.std.specs.Fn.{FnReturns}
 use Rattle.std.specs.Fork.{GivesJobs}
 use Rattle.std.specs.Global.{Vec}
-use Rattle.std.specs.List.{AllZip, zip, slice_index_or, get_or}
+use Rattle.std.specs.List.{AllZip, zip, slice_index_or}
 use Rattle.std.specs.FinMap.{entries}
 use Rattle.std.specs.declared.cmp.Ordering.{Ordering}
 use Rattle.std.proofs.lemmas.List.{length-map, map-append}

@@ -152,7 +152,7 @@ fn listed<K: WrittenKey>(alloc: Global, locked: &LockedHandle<K, u64>) -> Told<K
 // the same.
 fn list<K: WrittenKey>(alloc: Global, handle: Handle<K, u64>) -> (Told<K>, Handle<K, u64>)
     ensures { IsAnsweredBy K.hash Command.List (answer_on_names K.name result.0)
-        handle.entry result.1 }
+        handle result.1 }
 {
     match handle.lock() {
         Ok(locked) => {
@@ -170,7 +170,7 @@ pub(crate) fn answer_of<K: WrittenKey>(
     command: Command<K>,
 ) -> (Told<K>, Handle<K, u64>)
     ensures { IsAnsweredBy K.hash (on_names K.name command) (answer_on_names K.name result.0)
-        handle.entry result.1 }
+        handle result.1 }
 {
     let mut handle = handle;
     let answer = match command {

@@ -13,7 +13,7 @@ use std::thread::{Threads, map_vec};
 // Makes the calls of a worker by its handle, and notes their answers.
 fn work<K: WrittenKey, G: Gate>(alloc: Global, gate: &G, job: Job<K>) -> Done<K>
     requires { IsReadyJob job }
-    ensures { HasWorked K.hash K.name job.entry result }
+    ensures { HasWorked K.hash K.name job result }
 {
     let Job {
         worker,
@@ -40,11 +40,11 @@ pub fn work_all<T: Threads + Sync, K: WrittenKey + Send, G: Gate>(
     jobs: Vec<Job<K>>,
 ) -> Result<Vec<Done<K>>, AllocError>
     requires { All IsReadyJob jobs.items }
-    ensures { IfOk result (λ dones. AllZip (HasWorked K.hash K.name) jobs.entry.items dones.items) }
+    ensures { IfOk result (λ dones. AllZip (HasWorked K.hash K.name) jobs.items dones.items) }
 {
     let work_on = |job: Job<K>| -> Done<K>
         requires { IsReadyJob job }
-        ensures { HasWorked K.hash K.name job.entry result }
+        ensures { HasWorked K.hash K.name job result }
     { work(alloc, gate, job) };
     map_vec(rt, jobs, &work_on)
 }

@@ -6,4 +6,4 @@ use Rattle.ck_script.proofs.calls.insert.Goals as goal
 pub returns-in-Err : goal.returns-in-Err
 returns-in-Err g c =
     let name = g.K.TableKey.name in
-    uninserted g.K.TableKey.hash (Insert (name c.args.key) c.args.value) (name c.args.key) (answer_on_names name c.refusal_of.result) c.in-Err.refused.why c.args.caller.now c.insert.new.self tt (λ a said. said) (λ a by grounds. grounds) c.insert.ensures.same c.refusal_of.ensures c.in-Err.ensures.refused.2
+    uninserted g.K.TableKey.hash (Insert (name c.args.key) c.args.value) (name c.args.key) (answer_on_names name c.refusal_of.result) c.in-Err.refused.why c.args.handle.now c.insert.new.self tt (λ a said. said) (λ a by grounds. grounds) c.insert.ensures.same c.refusal_of.ensures c.in-Err.ensures.refused.2
