@@ -197,26 +197,38 @@ text_at_end hash name cmp in_order keys hashed set passes answers pairs m (Err e
 
 module _ {K : Type 0} (hash : Name → ℕ) (name : K → Name) (w : WordsState) (set : Settings) where
   -- the jobs are those of the handles that were opened
-  pub given_dealt : (workers : List (Vec (Command K))) (handles : List (CallerState ℕ)) (jobs : List (Job K)) → handles ≡ callers_of w (dealt w.table set (counting 0 set.callers)) → set.callers ≡ length workers
+  given_dealt : (workers : List (Vec (Command K))) (handles : List (CallerState ℕ)) (jobs : List (Job K)) → handles ≡ callers_of w (dealt w.table set (counting 0 set.callers)) → set.callers ≡ length workers
       → AllZip IsJob (zip handles workers) jobs → Given hash name w set 0 workers jobs
   given_dealt workers handles jobs is count given =
       subst (λ (cs : List (CallerState ℕ)). AllZip IsJob (zip cs workers) jobs) (is ∙ ap (λ n. callers_of w (dealt w.table set (counting 0 n))) count) given
 
+-- The work's jobs got the handles that were opened, and those who are done handed these back.
+module _ {K : Type 0} (hash : Name → ℕ) (name : K → Name) (w : WordsState) (work : Work K) (opened back : List (CallerState ℕ)) (jobs : List (Job K)) (dones : List (Done K))
+    (settings : w.settings ≡ work.settings) (are_dealt : opened ≡ callers_of w (dealt w.table work.settings (counting 0 work.settings.callers))) (are_jobs : AllZip IsJob (zip opened work.workers.items) jobs)
+    (worked : AllZip (HasWorked hash name) jobs dones) (are_back : back ≡ handles_of dones) where
+  given : Given hash name w work.settings 0 work.workers.items jobs
+  given = given_dealt hash name w work.settings work.workers.items opened jobs are_dealt work.callers are_jobs
+
+  -- they are all of the table's
+  pub all_back : AreAllHandles w back
+  all_back = subst (AreAllHandles w) (sym are_back)
+      (done_handles hash name w work.settings work.workers.items jobs dones (ap (λ (s : Settings). s.callers) settings ∙ work.callers) (subst (λ (s : Settings). 1 ≤ s.callers) (sym settings) work.range.caller) given worked)
+
   -- the text at the end is an output of the work
-  pub output_of_run : {E : Type 0} (keys : Keys) (work : Work K) (jobs : List (Job K)) (dones : List (Done K)) (handles : List (CallerState ℕ)) (answers : List (Vec (Answer (Vec (K × ℕ))))) (r : Result (Vec ℕ) E)
-      → hash ≡ hash_of keys → w.settings ≡ work.settings → Given hash name w set 0 work.workers.items jobs → Worked hash name w set jobs dones → handles ≡ handles_of dones → answers ≡ answers_of dones
-      → IfOk r (λ text. IsTextAtEnd keys w.settings (map pass_of handles) (lists_on_names name answers) text.items) → IfOk r (λ text. IsOutputOf (said_in keys name work) text.items)
-  output_of_run keys work jobs dones handles answers (Ok text) hashed settings given worked same_handles same_answers at_end =
+  pub output_of_run : {E : Type 0} (keys : Keys) (answers : List (Vec (Answer (Vec (K × ℕ))))) (r : Result (Vec ℕ) E) → hash ≡ hash_of keys → answers ≡ answers_of dones
+      → (AreAllHandles w back → IfOk r (λ text. IsTextAtEnd keys w.settings (map pass_of back) (lists_on_names name answers) text.items)) → IfOk r (λ text. IsOutputOf (said_in keys name work) text.items)
+  output_of_run keys answers (Ok text) hashed are_answers at_end =
       let workers = work.workers.items in
       let named_workers = workers_on_names name workers in
       let told = lists_on_names name (answers_of dones) in
       let end : IsTextAtEnd keys work.settings (map pass_of (handles_of dones)) told text.items =
       subst (λ (s : Settings). IsTextAtEnd keys s (map pass_of (handles_of dones)) told text.items) settings
-      (subst (λ (cs : List (CallerState ℕ)). IsTextAtEnd keys w.settings (map pass_of cs) told text.items) same_handles
-      (subst (λ (lists : List (Vec (Answer (Vec (K × ℕ))))). IsTextAtEnd keys w.settings (map pass_of handles) (lists_on_names name lists) text.items) same_answers at_end)) in
+      (subst (λ (cs : List (CallerState ℕ)). IsTextAtEnd keys w.settings (map pass_of cs) told text.items) are_back
+      (subst (λ (lists : List (Vec (Answer (Vec (K × ℕ))))). IsTextAtEnd keys w.settings (map pass_of back) (lists_on_names name lists) text.items) are_answers (at_end all_back))) in
       let count : w.settings.callers ≡ length named_workers =
       ap (λ (s : Settings). s.callers) settings ∙ work.callers ∙ sym (length-map workers (λ (cs : Vec (Command K)). map (on_names name) cs.items)) in
       let have : HaveParts (hash_of keys) work.settings end.log (length named_workers) 0 end.trace named_workers told (parts_of (map pass_of (handles_of dones))) =
-      subst (λ (x : (Name → ℕ) × Settings × ℕ). HaveParts x.0 x.1 end.log x.2 0 end.trace named_workers told (parts_of (map pass_of (handles_of dones)))) (λ i. (hashed i, settings i, count i)) (done_parts hash name w set end.log end.trace 0 workers jobs dones end.saw end.watched given worked) in
+      subst (λ (x : (Name → ℕ) × Settings × ℕ). HaveParts x.0 x.1 end.log x.2 0 end.trace named_workers told (parts_of (map pass_of (handles_of dones)))) (λ i. (hashed i, settings i, count i))
+      (done_parts hash name w work.settings end.log end.trace 0 workers jobs dones end.saw end.watched given worked) in
       output_of_parts (said_in keys name work) told (parts_of (map pass_of (handles_of dones))) end.log end.trace end.contents text.items have end.interleaving end.legal_trace end.decided end.legal end.of_table end.text_is
-  output_of_run keys work jobs dones handles answers (Err e) hashed settings given worked same_handles same_answers at_end = tt
+  output_of_run keys answers (Err e) hashed are_answers at_end = tt
