@@ -33,8 +33,7 @@ fn count_all(rt: &(impl Threads + Sync), alloc: Global, words: &[&str]) -> Resul
         || count(alloc, &mut first, left),
         || count(alloc, &mut second, right),
     );
-    one?;
-    two?;
+    one.and(two)?;
     Ok(first)
 }
 

@@ -62,8 +62,7 @@ fn run(rt: &(impl Threads + Sync), alloc: Global) -> Result<(u64, u64), Fault> {
         unreachable!()
     };
     let (one, two) = thread::join(rt, || serve(&mut first, 0), || serve(&mut second, 1));
-    one?;
-    two?;
+    one.and(two)?;
     let mut store = first.lock()?;
     let all = store.len();
     sweep(&mut store, 100);
