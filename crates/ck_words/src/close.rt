@@ -1,5 +1,5 @@
 //! The end of a table.
-ghost use Rattle.std.specs.Prelude.{◌≡◌, ℕ, ◌+◌, ◌^◌, ◌≤◌, ◌∷◌, ◌++◌, [], All, IfNone, IfSome, IfOk, IfErr, length, map, vec_capacity};
+ghost use Rattle.std.specs.Prelude.{◌≡◌, ℕ, ◌+◌, ◌^◌, ◌<◌, ◌≤◌, ◌∷◌, ◌++◌, [], All, IfSome, IfOk, IfErr, OnOk, OnErr, length, map, vec_capacity};
 ghost use Rattle.ck_model.specs.Listing.{named};
 ghost use Rattle.std.specs.FinMap.{from_entries};
 ghost use Rattle.ck_model.specs.Contents.{NamesApart, pairs_of};
@@ -7,7 +7,7 @@ ghost use Rattle.ck_stripe.specs.Stripes.{contents_of};
 ghost use Rattle.ck_stripe.specs.Tables.{AreSettled};
 ghost use Rattle.ck_model.specs.Counting.{counting};
 ghost use Rattle.ck_words.specs.Passes.{IsPassOf, IsIdle, ShowsSeen, numbers_of};
-ghost use Rattle.ck_words.specs.Retries.{Stays};
+ghost use Rattle.ck_words.specs.Retries.{Stays, IsBusy};
 ghost use Rattle.ck_words.specs.Closing.{IsWhole, IsCaller, AreAllPasses, Gathered, Closes};
 
 use crate::guard;
@@ -18,6 +18,17 @@ use crate::words::Words;
 use ck_key::TableKey;
 use ck_stripe::len;
 use std::alloc::Global;
+
+/// A table could not be ended: its passes, given back.
+#[derive(Drop)]
+pub struct StillOpen<K: TableKey, V> {
+    /// The pass by which it was to end.
+    pub pass: Pass<K, V>,
+    /// Those of all other callers.
+    pub others: Vec<Pass<K, V>>,
+    /// The stripe that was found held; `None` where there was no memory.
+    pub held: Option<u32>,
+}
 
 impl<K: TableKey + Drop, V: Drop> Words<K, V> {
     /// Ends the table, given the pass of one caller and those of all others, and gives its pairs.
@@ -31,41 +42,52 @@ impl<K: TableKey + Drop, V: Drop> Words<K, V> {
         &self,
         pass: Pass<K, V>,
         others: Vec<Pass<K, V>>,
-    ) -> Result<Vec<(K, V)>, (Pass<K, V>, Vec<Pass<K, V>>)>
+    ) -> Result<Vec<(K, V)>, StillOpen<K, V>>
         requires { AreAllPasses self.now (others.items ++ pass ∷ []) }
         ensures closed { IfOk result (λ pairs. Closes K.hash self.now.settings
             (others.items ++ pass ∷ []) (from_entries (map (named K.name) pairs.items))) }
         ensures apart { IfOk result (λ pairs. NamesApart (map (named K.name) pairs.items)) }
-        ensures passes { IfErr result (λ r. AreAllPasses self.now (others.items ++ r.0 ∷ [])) }
-        ensures stays { IfErr result (λ r. Stays pass.view r.0.view) }
-        ensures others { IfErr result (λ r. r.1 ≡ others) }
+        ensures passes { IfErr result (λ back.
+            AreAllPasses self.now (back.others.items ++ back.pass ∷ [])) }
+        ensures stays { IfErr result (λ back. Stays pass.view back.pass.view) }
+        ensures others { IfErr result (λ back. back.others ≡ others) }
+        ensures busy { IfErr result (λ back. IfSome back.held (λ t. (t < 2 ^ self.now.settings.s)
+            × IsBusy self.now.settings t pass back.pass)) }
     {
         let mut pass = pass;
         let alloc = *others.allocator();
-        let Some(pairs) = self.hold_with_room(alloc, &mut pass) else {
-            return Err((pass, others));
-        };
-        self.gather_all(&mut pass, others);
-        Ok(self.pour(pass, pairs))
+        match self.hold_with_room(alloc, &mut pass) {
+            Ok(pairs) => {
+                self.gather_all(&mut pass, others);
+                Ok(self.pour(pass, pairs))
+            }
+            Err(held) => Err(StillOpen { pass, others, held }),
+        }
     }
 
     // Takes all stripes, with no doubling left to carry out, and memory for their pairs. Where it
-    // is refused one of them, the pass holds none.
-    fn hold_with_room(&self, alloc: Global, pass: &mut Pass<K, V>) -> Option<Vec<(K, V)>>
+    // is refused one of them, or the memory, the pass holds none.
+    fn hold_with_room(
+        &self,
+        alloc: Global,
+        pass: &mut Pass<K, V>,
+    ) -> Result<Vec<(K, V)>, Option<u32>>
         requires own { IsPassOf self.now pass.old }
         requires idle { IsIdle pass.old }
         ensures own { IsPassOf self.now pass.new }
         ensures stays { Stays pass.old.view pass.new.view }
-        ensures idle { IfNone result (IsIdle pass.new) }
-        ensures whole { IfSome result (λ _. IsWhole K.hash self.now.settings pass.new) }
-        ensures settled { IfSome result (λ _. AreSettled pass.new.stripes) }
-        ensures empty { IfSome result (λ pairs. pairs.items ≡ []) }
-        ensures room { IfSome result (λ pairs. length (pairs_of (contents_of pass.new.stripes)) + 4
+        ensures idle { OnErr result (IsIdle pass.new) }
+        ensures busy { IfErr result (λ held. IfSome held (λ t. (t < 2 ^ self.now.settings.s)
+            × IsBusy self.now.settings t pass.old pass.new)) }
+        ensures whole { OnOk result (IsWhole K.hash self.now.settings pass.new) }
+        ensures settled { OnOk result (AreSettled pass.new.stripes) }
+        ensures empty { IfOk result (λ pairs. pairs.items ≡ []) }
+        ensures room { IfOk result (λ pairs. length (pairs_of (contents_of pass.new.stripes)) + 4
             ≤ vec_capacity pairs) }
     {
-        let Ok(()) = self.lock_all(pass) else {
-            return None;
-        };
+        if let Err(held) = self.lock_all(pass) {
+            return Err(Some(held));
+        }
         self.settle_whole(pass);
         let s = self.settings().s;
         let mut guard = guard!(self, pass, self.all());
@@ -73,9 +95,9 @@ impl<K: TableKey + Drop, V: Drop> Words<K, V> {
         let room = len(&mut guard, s) as usize + 4;
         let Ok(pairs) = Vec::with_capacity(alloc, room) else {
             guard.release();
-            return None;
+            return Err(None);
         };
-        Some(pairs)
+        Ok(pairs)
     }
 
     // Joins idle passes to another, one after another. After each it sees the history.

@@ -37,6 +37,7 @@ mod reserved_list;
 mod close;
 mod open;
 
+pub use close::StillOpen;
 pub use guard::Guard;
 pub use lift::Whole;
 pub use pass::Pass;

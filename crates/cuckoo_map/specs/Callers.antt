@@ -151,6 +151,11 @@ module _ {V : Type 0} where
   IsNotDrained c d (drain.Busy t) = IsBusyAmong (IsStripeIn c.table.settings) c.table.settings t (pass_of c) (pass_of d)
   IsNotDrained c d drain.Memory = (m : Map V) × Replies (Session (entries m) (entries m)) c d Closed
 
+  -- the table was not ended: this stripe was busy, or there was no memory, and nothing changed
+  abbrev pub IsNotClosed : CallerState V → CallerState V → DrainFault → Type 0
+  IsNotClosed c d (drain.Busy t) = IsBusyAmong (IsStripeIn c.table.settings) c.table.settings t (pass_of c) (pass_of d)
+  IsNotClosed c d drain.Memory = StaysAsIs c d
+
   -- Passes of other callers of its table, of which each number but its own has one.
   pub record AreOthers (c : CallerState V) (ps : List (PassState V)) : Type 0 where
     pub callers : All (IsCaller c.table) ps

@@ -9,6 +9,7 @@ ghost use Rattle.ck_words.specs.Closing.{IsCaller, Closes};
 use crate::locked::LockedOn;
 use crate::locked_keys::LockedKeysOn;
 use crate::no_callers::NoCallers;
+use crate::not_closed::NotClosed;
 use crate::table::Table;
 use crate::table_ref::TableRef;
 use ck_key::{Query, TableKey};
@@ -17,7 +18,7 @@ use ck_refusal::{
     NotLocked, NotRenamed, Refused, Why,
 };
 use ck_section::{Renamed, Uprased};
-use ck_words::{Message, Pass};
+use ck_words::{Message, Pass, StillOpen};
 use std::alloc::Global;
 use std::marker::Model;
 
@@ -117,7 +118,7 @@ impl<T: TableRef<K, V> + Drop, K: TableKey + Drop, V: Drop> CallerOn<T, K, V> {
     ghost use Rattle.ck_section.specs.Acts.{Finds, FindsBound, FindsBy, Inserts, InsertsBy, FindsOrInserts};
     ghost use Rattle.ck_section.specs.Acts.{Assigns, Upserts, Uprases, TriesUpsert, TriesUpsertWith, Updates, Modifies, Changes};
     ghost use Rattle.ck_section.specs.Acts.{ReplacesIf, TriesChange, Erases, ErasesBy, ChangesTwo};
-    ghost use Rattle.cuckoo_map.specs.Callers.{pass_of, IsSameCaller, Replies, RepliesOn, KeepsNotes, StaysAsIs, StaysButDoublings, MeetsCaller, HearsMessage, message_of_caller, Drains, IsNotDrained, AreOthers, FindsHeldOfAny};
+    ghost use Rattle.cuckoo_map.specs.Callers.{pass_of, IsSameCaller, Replies, RepliesOn, KeepsNotes, StaysAsIs, StaysButDoublings, MeetsCaller, HearsMessage, message_of_caller, Drains, IsNotDrained, AreOthers, IsNotClosed, FindsHeldOfAny};
     ghost use Rattle.cuckoo_map.specs.Callers.{QueryLeaves, InsertionLeaves, KeysLeave, Counts, GrowsTo, GrowsFor, IsBusyOn};
     ghost use Rattle.cuckoo_map.specs.Callers.{IsBusyOnSome, IsBusyOnAny, IsBusyOnTwo, FindsHeldOwn};
     ghost use Rattle.cuckoo_map.specs.Callers.{FindsHeldOfTwo, FindsHeldAmong, FindsHeldOfAny};
@@ -875,35 +876,45 @@ impl<T: TableRef<K, V> + Drop, K: TableKey + Drop, V: Drop> CallerOn<T, K, V> {
     }
 
     /// Is [`Table::close`], by this caller: ends the table, given the passes of all its other
-    /// callers. Refused, it gives the caller and the passes back, with the same entries.
+    /// callers. Refused as busy, or for want of memory for the list, it gives the caller and the
+    /// passes back, with the same entries.
     ///
     /// ```
     /// let mut passes = Vec::with_capacity(alloc, handles.len())?;
     /// for handle in handles {
     ///     passes.push_reserved(handle.into_pass());
     /// }
-    /// match last.close_table(passes) {
-    ///     Ok(pairs) => println!(rt; "{} keys were bound", pairs.len())?,
-    ///     Err((_last, passes)) => println!(rt; "not now; {} passes are back", passes.len())?,
-    /// }
+    /// let pairs: Vec<(NumKey, u64)> = last.close_table(passes)?;
     /// ```
     pub fn close_table(
         self,
         others: Vec<Pass<K, V>>,
-    ) -> Result<Vec<(K, V)>, (CallerOn<T, K, V>, Vec<Pass<K, V>>)>
+    ) -> Result<Vec<(K, V)>, NotClosed<CallerOn<T, K, V>, K, V>>
         requires { AreOthers self others.items }
         ensures pairs { IfOk result (λ pairs. (m : Map V)
             × Closes K.hash self.table.settings (others.items ++ pass_of self ∷ []) m
             × ListsInOrder K.name K.cmp pairs.items m) }
-        ensures same { IfErr result (λ back. IsSameCaller self back.0) }
-        ensures stays { IfErr result (λ back. StaysAsIs self back.0) }
-        ensures others { IfErr result (λ back. back.1 ≡ others) }
-        ensures again { IfErr result (λ back. AreOthers back.0 back.1.items) }
+        ensures same { IfErr result (λ back. IsSameCaller self back.caller) }
+        ensures stays { IfErr result (λ back. StaysAsIs self back.caller) }
+        ensures refused { IfErr result (λ back. IsNotClosed self back.caller back.why) }
+        ensures others { IfErr result (λ back. back.others ≡ others) }
+        ensures again { IfErr result (λ back. AreOthers back.caller back.others.items) }
     {
         let CallerOn { table, pass } = self;
         match table.table().close_by(pass, others) {
             Ok(pairs) => Ok(pairs),
-            Err((pass, others)) => Err((CallerOn { table, pass }, others)),
+            Err(StillOpen { pass, others, held }) => {
+                let caller = CallerOn { table, pass };
+                let why = match held {
+                    Some(stripe) => DrainFault::Busy(stripe),
+                    None => DrainFault::Memory,
+                };
+                Err(NotClosed {
+                    caller,
+                    others,
+                    why,
+                })
+            }
         }
     }
 }

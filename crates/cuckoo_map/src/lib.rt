@@ -37,6 +37,7 @@
 mod caller;
 mod handle;
 mod no_callers;
+mod not_closed;
 mod table;
 mod table_ref;
 
@@ -73,5 +74,6 @@ pub use handle::{Handle, LockedHandle};
 pub use locked::{LockedOn, LockedTable};
 pub use locked_keys::{LockedKeys, LockedKeysOn};
 pub use no_callers::NoCallers;
+pub use not_closed::NotClosed;
 pub use table::Table;
 pub use table_ref::TableRef;

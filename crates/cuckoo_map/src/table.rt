@@ -1,5 +1,5 @@
 //! The table, and how it begins and ends.
-ghost use Rattle.std.specs.Prelude.{◌≡◌, [], ◌∷◌, ◌++◌, IfOk, IfErr, Err};
+ghost use Rattle.std.specs.Prelude.{◌≡◌, [], ◌∷◌, ◌++◌, IfOk, IfErr, IfSome, Err};
 ghost use Rattle.ck_model.specs.Promise.{Map};
 ghost use Rattle.ck_model.specs.Listing.{ListsInOrder};
 ghost use Rattle.ck_model.specs.declared.settings.OutOfRange.{OutOfRange};
@@ -8,12 +8,13 @@ ghost use Rattle.ck_words.specs.Retries.{Stays};
 ghost use Rattle.ck_words.specs.Meeting.{message_from, Hears, Meets};
 ghost use Rattle.ck_model.specs.Counting.{counting};
 ghost use Rattle.ck_words.specs.Closing.{IsCaller, AreAllPasses, EachStays, Closes, dealt};
+ghost use Rattle.cuckoo_map.specs.Refusals.{IsBusyAmong, IsStripeIn};
 
 use crate::room::Growth;
 use ck_key::TableKey;
 use ck_model::settings::Settings;
 use ck_refusal::OpenFault;
-use ck_words::{Message, Pass, Words};
+use ck_words::{Message, Pass, StillOpen, Words};
 use std::alloc::Global;
 use std::marker::Model;
 
@@ -104,7 +105,13 @@ impl<K: TableKey + Drop, V: Drop> Table<K, V> {
         };
         match self.close_by(pass, others) {
             Ok(pairs) => Ok(pairs),
-            Err((pass, others)) => {
+            Err(
+                StillOpen {
+                    pass,
+                    others,
+                    held: _,
+                },
+            ) => {
                 let mut passes = others;
                 passes.push_reserved(pass);
                 Err((self, passes))
@@ -118,14 +125,17 @@ impl<K: TableKey + Drop, V: Drop> Table<K, V> {
         &self,
         pass: Pass<K, V>,
         others: Vec<Pass<K, V>>,
-    ) -> Result<Vec<(K, V)>, (Pass<K, V>, Vec<Pass<K, V>>)>
+    ) -> Result<Vec<(K, V)>, StillOpen<K, V>>
         requires { AreAllPasses self.now (others.items ++ pass ∷ []) }
         ensures pairs { IfOk result (λ pairs. (m : Map V)
             × Closes K.hash self.now.settings (others.items ++ pass ∷ []) m
             × ListsInOrder K.name K.cmp pairs.items m) }
-        ensures passes { IfErr result (λ r. AreAllPasses self.now (others.items ++ r.0 ∷ [])) }
-        ensures stays { IfErr result (λ r. Stays pass.view r.0.view) }
-        ensures others { IfErr result (λ r. r.1 ≡ others) }
+        ensures passes { IfErr result (λ back.
+            AreAllPasses self.now (back.others.items ++ back.pass ∷ [])) }
+        ensures stays { IfErr result (λ back. Stays pass.view back.pass.view) }
+        ensures others { IfErr result (λ back. back.others ≡ others) }
+        ensures busy { IfErr result (λ back. IfSome back.held (λ t.
+            IsBusyAmong (IsStripeIn self.now.settings) self.now.settings t pass back.pass)) }
     {
         let mut pairs = self.words.close(pass, others)?;
         pairs.sort_unstable_by(|a, b| a.0.cmp(&b.0));

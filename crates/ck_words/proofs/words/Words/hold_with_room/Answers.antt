@@ -21,13 +21,13 @@ returns-clause-own g c =
     let p : PassState g.row.V.Denot = c.settle_whole.new.pass in
     let q : PassState g.row.V.Denot = c.len.new.held.pass.now in
     let same : p ≡ q = λ i. record { table = sym c.len.ensures.stays.2 i; view = sym c.len.ensures.stays.1 i; stripes = sym c.len.ensures.same i } in
-    let there : q ≡ c.in-Ok-with_capacity.pass-1-own.given.0 = search rules in
+    let there : q ≡ c.in-Ok.pass-1-own.given.0 = search rules in
     rw (← there) (subst (λ (x : PassState g.row.V.Denot). IsPassOf c.args.self.now x) same c.settle_whole.ensures.own)
 
 pub returns-clause-stays : goal.returns-clause-stays
 returns-clause-stays g c =
     let view : c.len.new.held.pass.now.view ≡ c.lock_all.new.pass.view = c.len.ensures.stays.1 ∙ c.settle_whole.ensures.view in
-    let there : c.len.new.held.pass.now ≡ c.in-Ok-with_capacity.pass-1-own.given.0 = search rules in
+    let there : c.len.new.held.pass.now ≡ c.in-Ok.pass-1-own.given.0 = search rules in
     rw (← there) (subst (λ (v : View g.row.V.Denot). Stays c.args.pass.now.view v) (sym view) c.lock_all.ensures.stays)
 
 pub returns-clause-whole : goal.returns-clause-whole
@@ -35,10 +35,10 @@ returns-clause-whole g c =
     let p : PassState g.row.V.Denot = c.settle_whole.new.pass in
     let q : PassState g.row.V.Denot = c.len.new.held.pass.now in
     let same : p ≡ q = λ i. record { table = sym c.len.ensures.stays.2 i; view = sym c.len.ensures.stays.1 i; stripes = sym c.len.ensures.same i } in
-    let there : q ≡ c.in-Ok-with_capacity.pass-1-own.given.0 = search rules in
+    let there : q ≡ c.in-Ok.pass-1-own.given.0 = search rules in
     rw (← there) (subst (λ (x : PassState g.row.V.Denot). IsWhole g.K.TableKey.hash c.args.self.now.settings x) same c.settle_whole.ensures.whole)
 
 pub returns-clause-settled : goal.returns-clause-settled
 returns-clause-settled g c =
-    let there : c.len.new.held.pass.now ≡ c.in-Ok-with_capacity.pass-1-own.given.0 = search rules in
+    let there : c.len.new.held.pass.now ≡ c.in-Ok.pass-1-own.given.0 = search rules in
     rw (← there) (subst (λ (ss : List (StripeState g.row.V.Denot)). AreSettled ss) (sym c.len.ensures.same) c.settle_whole.ensures.settled)
