@@ -1,5 +1,6 @@
 -- A caller ends its table, with the passes of all others.
-use Rattle.std.proofs.Common.{◌≡◌, ℕ, List, [], ◌∷◌, ◌++◌, sym, subst}
+use Rattle.std.proofs.Common.{◌≡◌, Option, Some, None, ℕ, List, [], ◌∷◌, ◌++◌, sym, subst}
+use Rattle.std.specs.Prelude.{IfSome, IfNone}
 use Rattle.std.proofs.lemmas.List.Elements.{All-push}
 use Rattle.ck_model.specs.Promise.{Name, Map}
 use Rattle.ck_model.specs.Numbered.{IsIn, numbers}
@@ -7,7 +8,10 @@ use Rattle.ck_words.specs.Words.{WordsState}
 use Rattle.ck_words.specs.Passes.{PassState}
 use Rattle.ck_words.specs.Closing.{IsCaller, AreAllPasses, Closes, parts_of}
 use Rattle.ck_words.proofs.Ending.{callers_apart}
-use Rattle.cuckoo_map.specs.Callers.{CallerState, caller_of, pass_of, AreOthers}
+use Rattle.ck_refusal.specs.declared.refusal.DrainFault.{DrainFault}
+use Rattle.ck_refusal.specs.declared.refusal.DrainFault.TheVariants as faults
+use Rattle.cuckoo_map.specs.Refusals.{IsStripeIn, IsBusyAmong}
+use Rattle.cuckoo_map.specs.Callers.{CallerState, caller_of, pass_of, AreOthers, StaysAsIs, IsNotClosed}
 use Rattle.cuckoo_map.proofs.Callers.{as_pass}
 
 -- the caller c of the table w, which the call was made on as v, has the pass p
@@ -27,6 +31,12 @@ module _ {V : Type 0} {w v : WordsState} {c : CallerState V} (p : PassState V) (
   closes_by hash m closes =
       subst (λ (x : CallerState V). Closes hash x.table.settings (ps ++ pass_of x ∷ []) m) is
       (subst (λ (x : WordsState × PassState V). Closes hash x.0.settings (ps ++ x.1 ∷ []) m) (λ j. (at j, sym (as_pass before) j)) closes)
+
+-- why the table was not ended, where this stripe was found held, or none
+pub not_closed : {V : Type 0} (c d : CallerState V) (held : Option ℕ) (why : DrainFault) → IfSome held (λ t. why ≡ faults.Busy t) → IfNone held (why ≡ faults.Memory)
+    → IfSome held (λ t. IsBusyAmong (IsStripeIn c.table.settings) c.table.settings t (pass_of c) (pass_of d)) → StaysAsIs c d → IsNotClosed c d why
+not_closed c d (Some t) why is none busy stays = subst (IsNotClosed c d) (sym is) busy
+not_closed c d None why is none busy stays = subst (IsNotClosed c d) (sym none) stays
 
 -- the pass that came back is a caller's, and the others are all others
 module _ {V : Type 0} {w v : WordsState} (q : PassState V) (ps : List (PassState V)) (at : v ≡ w) (there : AreAllPasses v (ps ++ q ∷ [])) where

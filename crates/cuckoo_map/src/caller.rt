@@ -9,7 +9,7 @@ ghost use Rattle.ck_words.specs.Closing.{IsCaller, Closes};
 use crate::locked::LockedOn;
 use crate::locked_keys::LockedKeysOn;
 use crate::no_callers::NoCallers;
-use crate::not_closed::NotClosed;
+use crate::not_closed::{NotClosed, why_not_closed};
 use crate::table::Table;
 use crate::table_ref::TableRef;
 use ck_key::{Query, TableKey};
@@ -905,10 +905,7 @@ impl<T: TableRef<K, V> + Drop, K: TableKey + Drop, V: Drop> CallerOn<T, K, V> {
             Ok(pairs) => Ok(pairs),
             Err(StillOpen { pass, others, held }) => {
                 let caller = CallerOn { table, pass };
-                let why = match held {
-                    Some(stripe) => DrainFault::Busy(stripe),
-                    None => DrainFault::Memory,
-                };
+                let why = why_not_closed(held);
                 Err(NotClosed {
                     caller,
                     others,

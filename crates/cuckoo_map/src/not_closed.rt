@@ -1,4 +1,7 @@
 //! That a table was not ended.
+ghost use Rattle.std.specs.Prelude.{◌≡◌, IfNone, IfSome};
+ghost use Rattle.ck_refusal.specs.declared.refusal.DrainFault.TheVariants as faults;
+
 use ck_key::TableKey;
 use ck_refusal::{DrainFault, Fault};
 use ck_words::Pass;
@@ -15,6 +18,17 @@ pub struct NotClosed<C, K: TableKey, V> {
     pub others: Vec<Pass<K, V>>,
     /// Why it did not.
     pub why: DrainFault,
+}
+
+// Why a table was not ended where this stripe was found held, or none.
+pub(crate) fn why_not_closed(held: Option<u32>) -> DrainFault
+    ensures busy { IfSome held (λ t. result ≡ faults.Busy t) }
+    ensures memory { IfNone held (result ≡ faults.Memory) }
+{
+    match held {
+        Some(stripe) => DrainFault::Busy(stripe),
+        None => DrainFault::Memory,
+    }
 }
 
 impl<C, K: TableKey, V> Debug for NotClosed<C, K, V> {

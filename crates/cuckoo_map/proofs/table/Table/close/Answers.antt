@@ -24,10 +24,13 @@ returns-in-Ok-clause-pairs g c =
 pub returns-in-Err-clause-back : goal.returns-in-Err-clause-back
 returns-in-Err-clause-back g c =
     let w = c.args.self in
+    let o = c.in-Err.field-0 in
     let all = subst (AreAllPasses w) c.in-Some.ensures.items c.requires in
-    let back : c.push_reserved.new.self.items ≡ c.pop.new.self.items ++ c.in-Err.pass ∷ [] = c.push_reserved.ensures.items ∙ ap (λ v. v.items ++ c.in-Err.pass ∷ []) c.in-Err.ensures.others in (
+    let others : o.others.items ≡ c.pop.new.self.items = ap (λ v. v.items) c.in-Err.ensures.others in
+    let back : c.push_reserved.new.self.items ≡ o.others.items ++ o.pass ∷ [] = c.push_reserved.ensures.items in (
       refl,
       subst (AreAllPasses w) (sym back) c.in-Err.ensures.passes,
-      subst (λ (x : List (PassState g.row.V.Denot) × List (PassState g.row.V.Denot)). EachStays x.0 x.1) (λ i. (sym c.in-Some.ensures.items i, sym back i))
-          (each_stays w c.pop.new.self.items c.in-Some.pass c.in-Err.pass all c.in-Err.ensures.stays),
+      subst (λ (x : List (PassState g.row.V.Denot) × List (PassState g.row.V.Denot)). EachStays x.0 x.1)
+          (λ i. (sym c.in-Some.ensures.items i, sym (back ∙ ap (λ ps. ps ++ o.pass ∷ []) others) i))
+          (each_stays w c.pop.new.self.items c.in-Some.pass o.pass all c.in-Err.ensures.stays),
     )
