@@ -21,8 +21,12 @@ fn count(alloc: Global, counter: &mut Counter, words: &[&str]) -> Result<(), Fau
     Ok(())
 }
 
-/// Counts all words, by two threads.
-fn count_all(rt: &(impl Threads + Sync), alloc: Global, words: &[&str]) -> Result<Counter, Fault> {
+/// Counts all words by two threads, and looks some up.
+fn count_all(
+    rt: &(impl Threads + Sync),
+    alloc: Global,
+    words: &[&str],
+) -> Result<[Option<u64>; 3], Fault> {
     let mut counters = Handle::open(alloc, Settings::for_keys(10_000, 2))?;
     let (Some(mut first), Some(mut second)) = (counters.pop(), counters.pop()) else {
         unreachable!()
@@ -34,22 +38,14 @@ fn count_all(rt: &(impl Threads + Sync), alloc: Global, words: &[&str]) -> Resul
         || count(alloc, &mut second, right),
     );
     one.and(two)?;
-    Ok(first)
-}
-
-/// Prints how often some words stand there.
-fn report(rt: &impl Print, counter: &mut Counter) -> Result<()> {
-    for word in ["the", "cuckoo", "magpie"] {
-        let count = counter.find(word)?.unwrap_or(0);
-        println!(rt; "{count} {word}")?;
-    }
-    Ok(())
+    Ok(first.find_all(["the", "cuckoo", "magpie"])?)
 }
 
 fn main(rt: HostRuntime) -> Result<()> {
     let alloc = rt.alloc();
     let text = io::read_to_string(alloc, rt.stdin())?;
     let words: Vec<&str> = text.split_ascii_whitespace().collect(alloc)?;
-    let mut counter = count_all(&rt, alloc, &words)?;
-    report(&rt, &mut counter)
+    let counts = count_all(&rt, alloc, &words)?;
+    println!(rt; "{counts:?}")?;
+    Ok(())
 }

@@ -7,7 +7,6 @@ use anyhow::Result;
 use cuckoo_map::{Fault, Handle, LockedHandle, Settings};
 use key::SessionKey;
 use std::alloc::Global;
-use std::thread::{self, Threads};
 
 /// A session ends when it wasn't used for so long.
 const LIFETIME: u64 = 50;
@@ -33,7 +32,7 @@ fn touch(client: &mut Client, key: SessionKey, now: u64) -> Result<(), Fault> {
     Ok(())
 }
 
-/// What a thread is asked for.
+/// What a client is asked for.
 fn serve(client: &mut Client, device: u32) -> Result<(), Fault> {
     for now in 0..100u32 {
         for step in 0..8u32 {
@@ -54,25 +53,23 @@ fn sweep(store: &mut Store, now: u64) {
     });
 }
 
-/// Two clients serve a device each, in threads of their own, and one then sweeps the store. Tells how
-/// many sessions there were, and are.
-fn run(rt: &(impl Threads + Sync), alloc: Global) -> Result<(u64, u64), Fault> {
-    let mut clients = Handle::open(alloc, Settings::for_keys(1000, 2))?;
-    let (Some(mut first), Some(mut second)) = (clients.pop(), clients.pop()) else {
+/// Serves two devices, and then sweeps the store. Tells how many sessions are left.
+fn run(alloc: Global) -> Result<u64, Fault> {
+    let mut clients = Handle::open(alloc, Settings::for_keys(1000, 1))?;
+    let Some(mut client) = clients.pop() else {
         unreachable!()
     };
-    let (one, two) = thread::join(rt, || serve(&mut first, 0), || serve(&mut second, 1));
-    one.and(two)?;
-    let mut store = first.lock()?;
-    let all = store.len();
+    serve(&mut client, 0)?;
+    serve(&mut client, 1)?;
+    let mut store = client.lock()?;
     sweep(&mut store, 100);
     let left = store.len();
     store.unlock();
-    Ok((all, left))
+    Ok(left)
 }
 
 fn main(rt: HostRuntime) -> Result<()> {
-    let (all, left) = run(&rt, rt.alloc())?;
-    println!(rt; "{all} sessions, {left} of them used lately")?;
+    let left = run(rt.alloc())?;
+    println!(rt; "{left} sessions were used lately")?;
     Ok(())
 }

@@ -1,8 +1,8 @@
 //! What refusals say. No contract speaks of texts.
 use cuckoo_map::{
     AllLent, Busy, DrainFault, Fault, GrowFault, KeyFault, KeysNotLocked, KeysRefused,
-    KeysWithoutRoom, NoCallers, NoList, NoPool, NoSlot, NotDrained, NotLocked, NotRenamed, NumKey,
-    OpenFault, OutOfRange, Pool, Refused, RoomFault, Why,
+    KeysWithoutRoom, NoCallers, NoList, NoPool, NoSlot, NotClosed, NotDrained, NotLocked,
+    NotRenamed, NumKey, OpenFault, OutOfRange, Pool, Refused, RoomFault, Why,
 };
 use std::alloc::Global;
 use std::fmt::Display;
@@ -140,6 +140,12 @@ fn given_back(rt: HostRuntime) {
     check(&rt, alloc, &back, HELD);
     let back = NotDrained {
         caller: 1,
+        why: DrainFault::Busy(7),
+    };
+    check(&rt, alloc, &back, HELD);
+    let back = NotClosed::<u64, NumKey, u64> {
+        caller: 1,
+        others: Vec::new(alloc),
         why: DrainFault::Busy(7),
     };
     check(&rt, alloc, &back, HELD);
